@@ -1,0 +1,10 @@
+pub mod Linear
+pub mod Shapes
+pub mod Ring
+pub mod Corners
+pub mod Fits
+pub mod Tests
+pub mod Divide
+pub mod Divides
+pub mod Gcd
+pub mod Congruence

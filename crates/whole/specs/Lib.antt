@@ -1,0 +1,5 @@
+pub mod Choice
+pub mod Test
+pub mod Whole
+pub mod Range
+pub mod Divides

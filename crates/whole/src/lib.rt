@@ -1,0 +1,4 @@
+// Whole numbers.
+pub fn nothing() -> u64 {
+    0
+}
