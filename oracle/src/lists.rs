@@ -1,5 +1,7 @@
 //! The fixed lists: every corner once, thinned where there are too many, and random questions after them.
-use crate::questions::{INTERVAL, MENDED_CONGRUENCE, MENDED_INTERVAL, Operation, Random, SIGNS, Takes, operations, question};
+use crate::questions::{
+    operations, question, Operation, Random, Takes, INTERVAL, MENDED_CONGRUENCE, MENDED_INTERVAL, SIGNS,
+};
 use crate::questions::{CONGRUENCE, TRANSFER};
 use crate::words::listed;
 
@@ -120,7 +122,10 @@ fn sizes(family: &str) -> (u64, u64) {
         "interval" => (thin(INTERVAL, Takes::TwoIntervals, 49, 7500), 1500),
         "congruence" => (thin(CONGRUENCE, Takes::TwoCongruences, congruences().len(), 5000), 1200),
         "mended-interval" => (thin(MENDED_INTERVAL, Takes::TwoIntervals, 49, 5000), 1000),
-        "mended-congruence" => (thin(MENDED_CONGRUENCE, Takes::TwoCongruences, congruences().len(), 5000), 1200),
+        "mended-congruence" => (
+            thin(MENDED_CONGRUENCE, Takes::TwoCongruences, congruences().len(), 5000),
+            1200,
+        ),
         "transfer" => (1, 800),
         "sheet" => (1, 900),
         _ => (1, 100),
@@ -146,35 +151,152 @@ pub fn list(family: &str) -> Option<Vec<String>> {
 /// Sheets that show one thing each.
 fn sheets() -> Vec<String> {
     let hex = [
-        "-", "00", "0000", "01", "0100", "010002", "01000200", "0301020800F403040001",
+        "-",
+        "00",
+        "0000",
+        "01",
+        "0100",
+        "010002",
+        "01000200",
+        "0301020800F403040001",
         // numbers: longer than shortest, ten bytes, 2^64 and more
-        "8000", "8100", "808000", "0180", "01008100", "0100FFFFFFFFFFFFFFFFFF01", "0100FEFFFFFFFFFFFFFFFF01",
-        "0100FFFFFFFFFFFFFFFFFF02", "0100FFFFFFFFFFFFFFFFFF7F", "0100FFFFFFFFFFFFFFFFFF80", "0100FFFFFFFFFFFFFFFFFF81",
-        "0100FFFFFFFFFFFFFFFFFF00", "0100FFFFFFFFFFFFFFFFFF", "0100FFFFFFFFFFFFFFFFFFFF01", "010080808080808080808001",
-        "010080808080808080808002", "FFFFFFFFFFFFFFFFFF01", "FFFFFFFFFFFFFFFFFFFF", "FFFFFFFFFFFFFFFFFF02",
+        "8000",
+        "8100",
+        "808000",
+        "0180",
+        "01008100",
+        "0100FFFFFFFFFFFFFFFFFF01",
+        "0100FEFFFFFFFFFFFFFFFF01",
+        "0100FFFFFFFFFFFFFFFFFF02",
+        "0100FFFFFFFFFFFFFFFFFF7F",
+        "0100FFFFFFFFFFFFFFFFFF80",
+        "0100FFFFFFFFFFFFFFFFFF81",
+        "0100FFFFFFFFFFFFFFFFFF00",
+        "0100FFFFFFFFFFFFFFFFFF",
+        "0100FFFFFFFFFFFFFFFFFFFF01",
+        "010080808080808080808001",
+        "010080808080808080808002",
+        "FFFFFFFFFFFFFFFFFF01",
+        "FFFFFFFFFFFFFFFFFFFF",
+        "FFFFFFFFFFFFFFFFFF02",
         // counts
-        "8002", "8102", "8202", "810200", "80FF", "FF",
+        "8002",
+        "8102",
+        "8202",
+        "810200",
+        "80FF",
+        "FF",
         // operators
-        "0111", "0110", "017F", "018101", "0191", "011100", "02000011", "0102", "010F", "010E", "0110000000",
+        "0111",
+        "0110",
+        "017F",
+        "018101",
+        "0191",
+        "011100",
+        "02000011",
+        "0102",
+        "010F",
+        "010E",
+        "0110000000",
         // operands
-        "010200", "01020000", "020000020000", "020000020001", "02000002000100", "0200000F01", "0200000F00", "0200000F8000",
-        "020000100000", "02000010000000", "02000010000001", "02000010000100", "02000010010000", "0200000EFFFFFFFFFFFFFFFFFF01",
+        "010200",
+        "01020000",
+        "020000020000",
+        "020000020001",
+        "02000002000100",
+        "0200000F01",
+        "0200000F00",
+        "0200000F8000",
+        "020000100000",
+        "02000010000000",
+        "02000010000001",
+        "02000010000100",
+        "02000010010000",
+        "0200000EFFFFFFFFFFFFFFFFFF01",
         // inputs
-        "01010000", "01010200", "01010001", "01010100", "010103", "01010302", "01010203", "01010304", "0101FFFFFFFFFFFFFFFFFF01FEFFFFFFFFFFFFFFFF01",
-        "0101FEFFFFFFFFFFFFFFFF01FFFFFFFFFFFFFFFFFF01", "01010480", "0101048000", "01010200FF",
+        "01010000",
+        "01010200",
+        "01010001",
+        "01010100",
+        "010103",
+        "01010302",
+        "01010203",
+        "01010304",
+        "0101FFFFFFFFFFFFFFFFFF01FEFFFFFFFFFFFFFFFF01",
+        "0101FEFFFFFFFFFFFFFFFF01FFFFFFFFFFFFFFFFFF01",
+        "01010480",
+        "0101048000",
+        "01010200FF",
         // a range with its sign Top, its negation
         "0400040102040300010E02",
     ];
     let mut out: Vec<String> = hex.iter().map(|h| format!("sheet read {h}")).collect();
     out.extend(hex.iter().map(|h| format!("sheet run {h}")));
     out.extend(hex.iter().map(|h| format!("sheet run {h} 2")));
+    let odd = [
+        "",
+        " read",
+        " read ",
+        " read 0",
+        " read 0G",
+        " read 000",
+        " read 0x00",
+        " read 00 ",
+        " read --",
+        " read -00",
+        " read 01000a",
+        " read 01000A",
+        " run",
+        " run ",
+        " run 00 ",
+        " run 00 x",
+        " run 00 1",
+        " run 00 9223372036854775808",
+        " run 0301020800f403040001 4",
+        " write ",
+        " write x",
+        " write 0 0 0 0 ",
+        " write 0 0 0 9223372036854775808",
+        " check 00",
+        " reads 00",
+    ];
+    out.extend(odd.iter().map(|w| format!("sheet{w}")));
     let numbers = [
-        "", " 0", " 0 0", " 0 0 0", " 0 5 0 0", " 0 -9223372036854775808 0 0", " 0 9223372036854775807 0 0", " 0 -1 0 0 0",
-        " 0 5 1 0", " 0 5 0 -1", " 1 0 0 0", " 1 0 0 1", " 1 1 0 0", " 1 1 0 1", " 1 -9223372036854775808 9223372036854775807 0",
-        " 1 9223372036854775807 -9223372036854775808 0", " 17 0 0 0", " -1 0 0 0", " 17 0 0 1", " 256 0 0 0", " 2 0 0 0",
-        " 0 5 0 0 2 0 0 0", " 0 5 0 0 2 0 1 0", " 0 5 0 0 2 -1 0 0", " 0 5 0 0 2 0 0 1", " 0 5 0 0 2 0 9 1", " 0 5 0 0 15 0 0 0",
-        " 0 5 0 0 15 0 1 0", " 0 5 0 0 14 0 0 1", " 0 5 0 0 16 0 0 0", " 0 5 0 0 16 0 0 1", " 0 5 0 0 16 0 0 -1",
-        " 0 5 0 0 16 0 9223372036854775807 0", " 9223372036854775807 0 0 0", " -9223372036854775808 0 0 0",
+        "",
+        " 0",
+        " 0 0",
+        " 0 0 0",
+        " 0 5 0 0",
+        " 0 -9223372036854775808 0 0",
+        " 0 9223372036854775807 0 0",
+        " 0 -1 0 0 0",
+        " 0 5 1 0",
+        " 0 5 0 -1",
+        " 1 0 0 0",
+        " 1 0 0 1",
+        " 1 1 0 0",
+        " 1 1 0 1",
+        " 1 -9223372036854775808 9223372036854775807 0",
+        " 1 9223372036854775807 -9223372036854775808 0",
+        " 17 0 0 0",
+        " -1 0 0 0",
+        " 17 0 0 1",
+        " 256 0 0 0",
+        " 2 0 0 0",
+        " 0 5 0 0 2 0 0 0",
+        " 0 5 0 0 2 0 1 0",
+        " 0 5 0 0 2 -1 0 0",
+        " 0 5 0 0 2 0 0 1",
+        " 0 5 0 0 2 0 9 1",
+        " 0 5 0 0 15 0 0 0",
+        " 0 5 0 0 15 0 1 0",
+        " 0 5 0 0 14 0 0 1",
+        " 0 5 0 0 16 0 0 0",
+        " 0 5 0 0 16 0 0 1",
+        " 0 5 0 0 16 0 0 -1",
+        " 0 5 0 0 16 0 9223372036854775807 0",
+        " 9223372036854775807 0 0 0",
+        " -9223372036854775808 0 0 0",
         " 1 1 4 0 0 250 0 0 4 0 1 0",
     ];
     out.extend(numbers.iter().map(|n| format!("sheet write{n}")));
@@ -182,7 +304,23 @@ fn sheets() -> Vec<String> {
     out.push(format!("sheet write{}", listed(&[0; 1028])));
     out.push(format!("sheet write{}", listed(&[0; 1029])));
     out.extend(numbered_steps());
+    out.extend(longest());
     out
+}
+
+/// The longest sheet there is (5,378 bytes), longer bytes than that, and the most that a line can hold.
+fn longest() -> Vec<String> {
+    let steps = [1, i64::MIN, i64::MAX, 0].repeat(256);
+    let bytes = crate::sheet::write(&steps).unwrap();
+    let digits = crate::words::hex(&bytes);
+    vec![
+        format!("sheet read {digits}"),
+        format!("sheet read {digits}00"),
+        format!("sheet write{}", listed(&steps)),
+        format!("sheet run {digits}{}", listed(&[i64::MIN; 256])),
+        format!("sheet run {digits}{}", listed(&[i64::MIN; 255])),
+        format!("sheet read {}", "00".repeat(16_378)),
+    ]
 }
 
 /// Every operator on corner numbers, two constants and the operator.
@@ -208,12 +346,45 @@ fn numbered_steps() -> Vec<String> {
 /// Lines that no family knows, and the longest that is still read.
 pub fn bad() -> Vec<String> {
     let lines = [
-        "", " ", "hello", "number", "number ", "number gcd", "number gcd 1", "number gcd 1 2 3", "number gcd 1  2", " number gcd 1 2",
-        "number gcd 1 2 ", "number  gcd 1 2", "number gcd +1 2", "number gcd 1 2\r", "number\tgcd\t1\t2", "number gcd - 2", "number gcd 1 --2",
-        "number gcd 1 2-", "number gcd 9223372036854775808 1", "number gcd -9223372036854775809 1", "number gcd 1 18446744073709551616",
-        "number gcd 1 100000000000000000000000000000000000000000", "number gcd 1 0x10", "number gcd 1 1.0", "number gcd a b", "NUMBER gcd 1 2",
-        "number GCD 1 2", "numbers gcd 1 2", "numbe gcd 1 2", "number gc 1 2", "number gcdx 1 2", "gcd 1 2", "gcd number 1 2", "number max 1 2",
-        "not understood", "mended", "mended number gcd 1 2", "a_very_long_word_that_no_family_has 1 2", "number a_very_long_word_that_no_family_has 1 2",
+        "",
+        " ",
+        "hello",
+        "number",
+        "number ",
+        "number gcd",
+        "number gcd 1",
+        "number gcd 1 2 3",
+        "number gcd 1  2",
+        " number gcd 1 2",
+        "number gcd 1 2 ",
+        "number  gcd 1 2",
+        "number gcd +1 2",
+        "number gcd 1 2\r",
+        "number\tgcd\t1\t2",
+        "number gcd - 2",
+        "number gcd 1 --2",
+        "number gcd 1 2-",
+        "number gcd 9223372036854775808 1",
+        "number gcd -9223372036854775809 1",
+        "number gcd 1 18446744073709551616",
+        "number gcd 1 100000000000000000000000000000000000000000",
+        "number gcd 1 0x10",
+        "number gcd 1 1.0",
+        "number gcd a b",
+        "NUMBER gcd 1 2",
+        "number GCD 1 2",
+        "numbers gcd 1 2",
+        "numbe gcd 1 2",
+        "number gc 1 2",
+        "number gcdx 1 2",
+        "gcd 1 2",
+        "gcd number 1 2",
+        "number max 1 2",
+        "not understood",
+        "mended",
+        "mended number gcd 1 2",
+        "a_very_long_word_that_no_family_has 1 2",
+        "number a_very_long_word_that_no_family_has 1 2",
     ];
     let mut out: Vec<String> = lines.iter().map(|l| l.to_string()).collect();
     out.push("x".repeat(40_000));

@@ -17,7 +17,11 @@ use std::io::{self, BufRead, Read, Write};
 
 /// The answer to a question, or that it isn't understood.
 fn answer(line: &[u8]) -> String {
-    let known = if line.len() > words::LONGEST { None } else { asked(&words::words(line)) };
+    let known = if line.len() > words::LONGEST {
+        None
+    } else {
+        asked(&words::words(line))
+    };
     known.unwrap_or_else(|| words::NOT_UNDERSTOOD.to_string())
 }
 
@@ -77,12 +81,21 @@ fn main() {
             let family = family.replace(' ', "-");
             let mut r = questions::Random::new(parsed(seed));
             for k in 0..parsed(n) {
-                writeln!(out, "{}", questions::question(&family, k, &mut r).unwrap_or_else(|| usage())).unwrap();
+                writeln!(
+                    out,
+                    "{}",
+                    questions::question(&family, k, &mut r).unwrap_or_else(|| usage())
+                )
+                .unwrap();
             }
         }
         ["list", family] => {
             let family = family.replace(' ', "-");
-            let list = if family == "bad" { Some(lists::bad()) } else { lists::list(&family) };
+            let list = if family == "bad" {
+                Some(lists::bad())
+            } else {
+                lists::list(&family)
+            };
             for line in list.unwrap_or_else(|| usage()) {
                 writeln!(out, "{line}").unwrap();
             }

@@ -1,5 +1,5 @@
 //! The families `mended sign`, `mended interval` and `mended congruence`, answered by the model.
-use crate::model::{Answer, Comparison, Congruence, Interval, Sign, W64, range, spaced};
+use crate::model::{range, spaced, Answer, Comparison, Congruence, Interval, Sign, W64};
 use crate::ported::order;
 use crate::words::{numbers, refused};
 

@@ -9,7 +9,10 @@ pub struct Width {
     pub greatest: i128,
 }
 
-pub const W64: Width = Width { least: i64::MIN as i128, greatest: i64::MAX as i128 };
+pub const W64: Width = Width {
+    least: i64::MIN as i128,
+    greatest: i64::MAX as i128,
+};
 
 impl Width {
     pub fn fits(self, n: i128) -> bool {
@@ -23,15 +26,27 @@ pub type Answer<T> = Result<T, u8>;
 // ---------------------------------------------------------------- numbers
 
 pub fn gcd(a: i128, b: i128) -> i128 {
-    if b == 0 { a.abs() } else { gcd(b, a % b) }
+    if b == 0 {
+        a.abs()
+    } else {
+        gcd(b, a % b)
+    }
 }
 
 pub fn lcm(a: i128, b: i128) -> i128 {
-    if a == 0 || b == 0 { 0 } else { (a / gcd(a, b) * b).abs() }
+    if a == 0 || b == 0 {
+        0
+    } else {
+        (a / gcd(a, b) * b).abs()
+    }
 }
 
 pub fn fitting(w: Width, n: i128) -> Answer<i128> {
-    if w.fits(n) { Ok(n) } else { Err(2) }
+    if w.fits(n) {
+        Ok(n)
+    } else {
+        Err(2)
+    }
 }
 
 // ---------------------------------------------------------------- comparisons
@@ -148,7 +163,10 @@ impl Sign {
 
     pub fn pairs(self, other: Sign) -> Vec<(i128, i128)> {
         let right = other.some();
-        self.some().into_iter().flat_map(|x| right.iter().map(move |y| (x, *y)).collect::<Vec<_>>()).collect()
+        self.some()
+            .into_iter()
+            .flat_map(|x| right.iter().map(move |y| (x, *y)).collect::<Vec<_>>())
+            .collect()
     }
 
     pub fn least(self, other: Sign, work: impl Fn(i128, i128) -> i128) -> Sign {
@@ -171,7 +189,11 @@ impl Sign {
 
     /// As ported: a remainder has the left side's sign, or is 0.
     pub fn rem(self) -> Sign {
-        if self == BOTTOM { BOTTOM } else { self.join(ZERO) }
+        if self == BOTTOM {
+            BOTTOM
+        } else {
+            self.join(ZERO)
+        }
     }
 
     pub fn of_truth(t: Truth) -> Sign {
@@ -264,7 +286,11 @@ impl Width {
 
     /// Refusal 1 goes first of all.
     fn admit(self, values: &[Interval]) -> Answer<()> {
-        if values.iter().all(|i| self.canonical(*i)) { Ok(()) } else { Err(1) }
+        if values.iter().all(|i| self.canonical(*i)) {
+            Ok(())
+        } else {
+            Err(1)
+        }
     }
 
     /// The least range of these numbers, if its ends fit.
@@ -276,7 +302,11 @@ impl Width {
 
     pub fn interval_neg(self, x: Interval) -> Answer<Interval> {
         self.admit(&[x])?;
-        if x.empty() { Ok(self.bottom()) } else { self.hull(&[-x.min, -x.max]) }
+        if x.empty() {
+            Ok(self.bottom())
+        } else {
+            self.hull(&[-x.min, -x.max])
+        }
     }
 
     /// Sums, differences and products reach their least and greatest at the corners.
@@ -285,12 +315,21 @@ impl Width {
         if x.empty() || y.empty() {
             return Ok(self.bottom());
         }
-        self.hull(&[work(x.min, y.min), work(x.min, y.max), work(x.max, y.min), work(x.max, y.max)])
+        self.hull(&[
+            work(x.min, y.min),
+            work(x.min, y.max),
+            work(x.max, y.min),
+            work(x.max, y.max),
+        ])
     }
 
     pub fn interval_div(self, x: Interval, y: Interval) -> Answer<Interval> {
         self.admit(&[x, y])?;
-        Ok(if x.empty() || y.empty() || y == range(0, 0) { self.bottom() } else { self.top() })
+        Ok(if x.empty() || y.empty() || y == range(0, 0) {
+            self.bottom()
+        } else {
+            self.top()
+        })
     }
 
     pub fn interval_rem(self, x: Interval, y: Interval) -> Answer<Interval> {
@@ -300,7 +339,11 @@ impl Width {
         }
         if x.min == x.max && y.min == y.max {
             let (a, b) = (x.min, y.min);
-            return if a == self.least && b == -1 { Err(2) } else { Ok(range(a % b, a % b)) };
+            return if a == self.least && b == -1 {
+                Err(2)
+            } else {
+                Ok(range(a % b, a % b))
+            };
         }
         let m = y.min.abs().max(y.max.abs());
         Ok(if x == range(0, 0) {
@@ -332,8 +375,16 @@ impl Width {
         if new.empty() || previous.empty() {
             return Ok(self.bottom());
         }
-        let min = if previous.min == self.least { new.min } else { previous.min };
-        let max = if previous.max == self.greatest { new.max } else { previous.max };
+        let min = if previous.min == self.least {
+            new.min
+        } else {
+            previous.min
+        };
+        let max = if previous.max == self.greatest {
+            new.max
+        } else {
+            previous.max
+        };
         Ok(if min > max { self.bottom() } else { range(min, max) })
     }
 }
@@ -357,7 +408,11 @@ impl Interval {
 
     /// The least sign that holds its numbers.
     pub fn sign(self) -> Sign {
-        if self.empty() { BOTTOM } else { Sign::of_all([-1, 0, 1].map(|n: i128| n.clamp(self.min, self.max))) }
+        if self.empty() {
+            BOTTOM
+        } else {
+            Sign::of_all([-1, 0, 1].map(|n: i128| n.clamp(self.min, self.max)))
+        }
     }
 
     pub fn text(self, w: Width) -> String {
@@ -389,11 +444,21 @@ pub fn spaced(constant: i128, modulus: i128) -> Congruence {
 
 /// All numbers that differ from `constant` by a multiple of `modulus`, as a canonical value; never bottom.
 pub fn every(constant: i128, modulus: i128) -> Congruence {
-    if modulus == 0 { spaced(constant, 0) } else { spaced(constant.rem_euclid(modulus), modulus) }
+    if modulus == 0 {
+        spaced(constant, 0)
+    } else {
+        spaced(constant.rem_euclid(modulus), modulus)
+    }
 }
 
-pub const ALL: Congruence = Congruence { constant: 0, modulus: 1 };
-pub const NOTHING: Congruence = Congruence { constant: 1, modulus: 1 };
+pub const ALL: Congruence = Congruence {
+    constant: 0,
+    modulus: 1,
+};
+pub const NOTHING: Congruence = Congruence {
+    constant: 1,
+    modulus: 1,
+};
 
 impl Congruence {
     pub fn in_domain(self) -> bool {
@@ -402,7 +467,11 @@ impl Congruence {
 
     /// A value of the domain, made canonical.
     pub fn canonical(self) -> Congruence {
-        if self == NOTHING { NOTHING } else { every(self.constant, self.modulus) }
+        if self == NOTHING {
+            NOTHING
+        } else {
+            every(self.constant, self.modulus)
+        }
     }
 
     pub fn holds(self, n: i128) -> bool {
@@ -509,11 +578,19 @@ fn inverse(a: i128, n: i128) -> i128 {
 impl Width {
     /// The numbers x with x - c divisible by m, or c alone: bottom if that single number doesn't fit.
     fn spacing(self, constant: i128, modulus: i128) -> Congruence {
-        if modulus == 0 && !self.fits(constant) { NOTHING } else { every(constant, modulus) }
+        if modulus == 0 && !self.fits(constant) {
+            NOTHING
+        } else {
+            every(constant, modulus)
+        }
     }
 
     pub fn congruence_neg(self, x: Congruence) -> Congruence {
-        if x == NOTHING { NOTHING } else { self.spacing(-x.constant, x.modulus) }
+        if x == NOTHING {
+            NOTHING
+        } else {
+            self.spacing(-x.constant, x.modulus)
+        }
     }
 
     pub fn congruence_add(self, x: Congruence, y: Congruence) -> Congruence {
@@ -534,8 +611,12 @@ impl Width {
         if x == NOTHING || y == NOTHING {
             return NOTHING;
         }
-        let products =
-            [x.modulus * y.modulus, x.modulus * y.constant, y.modulus * x.constant, x.constant * y.constant];
+        let products = [
+            x.modulus * y.modulus,
+            x.modulus * y.constant,
+            y.modulus * x.constant,
+            x.constant * y.constant,
+        ];
         let modulus = gcd(gcd(products[0], products[1]), products[2]);
         if products.iter().all(|p| self.fits(*p)) && self.fits(modulus) {
             every(products[3], modulus)
@@ -564,7 +645,11 @@ impl Width {
             return x;
         }
         let modulus = gcd(gcd(x.modulus, y.modulus), x.constant - y.constant);
-        if modulus > self.greatest { ALL } else { every(x.constant, modulus) }
+        if modulus > self.greatest {
+            ALL
+        } else {
+            every(x.constant, modulus)
+        }
     }
 
     pub fn congruence_meet(self, x: Congruence, y: Congruence) -> Congruence {

@@ -4,7 +4,7 @@ use crate::published::{congruence_analysis, interval_analysis, lexer};
 use crate::words::{numbers, refused};
 use number_theory::NumberTheory;
 use std::cmp::Ordering;
-use std::panic::{AssertUnwindSafe, catch_unwind, set_hook};
+use std::panic::{catch_unwind, set_hook, AssertUnwindSafe};
 
 /// Keeps panics silent: they are answers here.
 pub fn silence() {
@@ -204,9 +204,7 @@ pub fn congruence_answer(words: &[&[u8]]) -> Option<String> {
         (b"from", [_, m]) if *m < 0 => Some(refused(1)),
         (b"from", [c, m]) => Some(or_refused(|| format!("{:?}", Congruence::from(*c, *m)))),
         (op, [c, m]) => congruence_unary(op, congruence(*c, *m)),
-        (op, [c, m, d, n]) => {
-            congruence_binary(op, congruence(*c, *m).zip(congruence(*d, *n)))
-        }
+        (op, [c, m, d, n]) => congruence_binary(op, congruence(*c, *m).zip(congruence(*d, *n))),
         _ => None,
     }
 }
@@ -250,7 +248,9 @@ fn congruence_binary(op: &[u8], both: Option<(Congruence, Congruence)>) -> Optio
 
 /// `transfer interval|congruence binary|unary NUMBER ..`; what isn't in the domain is refused before the Rust is asked.
 pub fn transfer_answer(words: &[&[u8]]) -> Option<String> {
-    let [analysis, shape, rest @ ..] = words else { return None };
+    let [analysis, shape, rest @ ..] = words else {
+        return None;
+    };
     let n = numbers(rest)?;
     let (number, operands) = n.split_first()?;
     let token = lexer::token(*number);
@@ -265,11 +265,13 @@ pub fn transfer_answer(words: &[&[u8]]) -> Option<String> {
         }
         (b"congruence", b"binary", [c, m, d, n]) => {
             let both = congruence(*c, *m).zip(congruence(*d, *n));
-            inside(token.zip(both), |(t, (x, y))| format!("{:?}", congruence_analysis::binary(t, x, y)))
+            inside(token.zip(both), |(t, (x, y))| {
+                format!("{:?}", congruence_analysis::binary(t, x, y))
+            })
         }
-        (b"congruence", b"unary", [c, m]) => {
-            inside(token.zip(congruence(*c, *m)), |(t, x)| format!("{:?}", congruence_analysis::unary(t, x)))
-        }
+        (b"congruence", b"unary", [c, m]) => inside(token.zip(congruence(*c, *m)), |(t, x)| {
+            format!("{:?}", congruence_analysis::unary(t, x))
+        }),
         _ => None,
     }
 }

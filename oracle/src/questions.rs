@@ -1,5 +1,5 @@
 //! Random questions of a family, dense in corner values, of the stated domain and of arguments outside it.
-use crate::sheet::{self, Fields, Step, fields, put_number};
+use crate::sheet::{self, fields, put_number, Fields, Step};
 use crate::words::{hex, listed};
 
 /// A small generator of its own (splitmix64), so that a seed gives the same questions everywhere.
@@ -118,7 +118,16 @@ fn modulus(r: &mut Random) -> i64 {
         0 | 1 => 0,
         2 => 1,
         3 => r.between(2, 12),
-        4 => r.pick(&[1 << 31, 1 << 32, 1 << 61, 1 << 62, (1 << 62) + 1, i64::MAX - 1, i64::MAX, 3037000500]),
+        4 => r.pick(&[
+            1 << 31,
+            1 << 32,
+            1 << 61,
+            1 << 62,
+            (1 << 62) + 1,
+            i64::MAX - 1,
+            i64::MAX,
+            3037000500,
+        ]),
         5 => (r.next() >> 1 >> r.below(62)) as i64,
         6 => r.pick(&[2, 3, 5, 7, 30]) * r.between(1, 60),
         _ => number(r).unsigned_abs().min(i64::MAX as u64) as i64,
@@ -174,7 +183,9 @@ fn congruence_beside(r: &mut Random, (c, m): Pair) -> Pair {
     }
 }
 
-pub const SIGNS: [&str; 8] = ["Top", "Bottom", "Negative", "Zero", "Positive", "NonNeg", "NonZero", "NonPos"];
+pub const SIGNS: [&str; 8] = [
+    "Top", "Bottom", "Negative", "Zero", "Positive", "NonNeg", "NonZero", "NonPos",
+];
 
 // ---------------------------------------------------------------- families
 
@@ -370,7 +381,11 @@ fn arguments(r: &mut Random, takes: Takes) -> String {
             listed(&[x.0, x.1])
         }
         Takes::FreePair => {
-            let x = if r.once_in(3) { (number(r), number(r)) } else { congruence(r) };
+            let x = if r.once_in(3) {
+                (number(r), number(r))
+            } else {
+                congruence(r)
+            };
             listed(&[x.0, x.1])
         }
         Takes::TwoCongruences => {
@@ -413,7 +428,12 @@ fn damaged(r: &mut Random, line: String) -> String {
 /// The k-th question of a family; its operations take turns, and one question in 64 is damaged.
 pub fn question(family: &str, k: u64, r: &mut Random) -> Option<String> {
     let line = if family == "sheet" {
-        sheet_question(r)
+        let line = sheet_question(r);
+        if r.once_in(16) {
+            line.to_lowercase()
+        } else {
+            line
+        }
     } else {
         let all = operations(family)?;
         let (name, takes) = all[(k % all.len() as u64) as usize];
@@ -448,11 +468,27 @@ pub fn steps(r: &mut Random, n: usize) -> Vec<Step> {
     let mut made: Vec<Step> = Vec::new();
     let mut truths: Vec<i64> = Vec::new();
     for k in 0..n {
-        let any = |r: &mut Random| if r.once_in(3) { k as i64 - 1 - r.below(k.min(4) as u64) as i64 } else { r.below(k as u64) as i64 };
+        let any = |r: &mut Random| {
+            if r.once_in(3) {
+                k as i64 - 1 - r.below(k.min(4) as u64) as i64
+            } else {
+                r.below(k as u64) as i64
+            }
+        };
         let truth = |r: &mut Random, truths: &[i64]| {
-            if truths.is_empty() || r.once_in(24) { r.below(k as u64) as i64 } else { r.pick(truths) }
+            if truths.is_empty() || r.once_in(24) {
+                r.below(k as u64) as i64
+            } else {
+                r.pick(truths)
+            }
         };
         let kind = if k == 0 { r.below(2) } else { r.below(24) };
+        // a logical step needs a truth before it
+        let kind = if truths.is_empty() && matches!(kind, 8 | 9 | 14 | 16 | 19) && !r.once_in(24) {
+            22
+        } else {
+            kind
+        };
         let step = match kind {
             0 | 17 => [0, if r.once_in(4) { number(r) } else { r.between(-9, 300) }, 0, 0],
             1 | 18 => {
@@ -566,7 +602,11 @@ fn broken(r: &mut Random, steps: &[Step]) -> Vec<u8> {
             let at = r.below(bytes.len() as u64) as usize;
             bytes[at] ^= 1 << r.below(8);
         }
-        4 => bytes = (0..r.below(24)).map(|_| r.next() as u8 & r.pick(&[0x03, 0x1F, 0xFF])).collect(),
+        4 => {
+            bytes = (0..r.below(24))
+                .map(|_| r.next() as u8 & r.pick(&[0x03, 0x1F, 0xFF]))
+                .collect()
+        }
         _ => bytes = with_form(r, steps),
     }
     bytes
@@ -622,7 +662,11 @@ fn sheet_question(r: &mut Random) -> String {
 pub fn sheet_and_inputs(r: &mut Random) -> String {
     let n = many(r);
     let steps = steps(r, n);
-    let bytes = if r.once_in(6) { broken(r, &steps) } else { written(&steps) };
+    let bytes = if r.once_in(6) {
+        broken(r, &steps)
+    } else {
+        written(&steps)
+    };
     let mut given = inputs(r, &steps);
     if r.once_in(12) {
         given.push(0);

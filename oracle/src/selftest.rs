@@ -2,7 +2,7 @@
 //! and both to document 01's fourteen numbers.
 use crate::answer;
 use crate::model::*;
-use crate::questions::{Random, inputs, number, sheet_and_inputs, steps, written};
+use crate::questions::{inputs, number, sheet_and_inputs, steps, written, Random};
 use crate::sheet;
 use std::cmp::Ordering;
 
@@ -83,13 +83,20 @@ fn fourteen(t: &mut Tally) {
         t.same(&question, expected);
     }
     let shown = sheet::check_text(&[0x03, 0x01, 0x02, 0x08, 0x00, 0xF4, 0x03, 0x04, 0x00, 0x01]);
-    let expected = "0 [1, 4] 0 mod 1 Positive\n1 [250, 250] 250 mod 0 Positive\n2 [250, 1000] 0 mod 250 Positive\npassed 3\n";
+    let expected =
+        "0 [1, 4] 0 mod 1 Positive\n1 [250, 250] 250 mod 0 Positive\n2 [250, 1000] 0 mod 250 Positive\npassed 3\n";
     t.hold(shown == expected, || shown.clone());
 }
 
 fn numbers(t: &mut Tally) {
     let mut r = Random::new(7);
-    let text = |n: i128| if W64.fits(n) { n.to_string() } else { "refused by 2".to_string() };
+    let text = |n: i128| {
+        if W64.fits(n) {
+            n.to_string()
+        } else {
+            "refused by 2".to_string()
+        }
+    };
     for _ in 0..20_000 {
         let (a, b) = (number(&mut r), number(&mut r));
         t.same(&format!("number gcd {a} {b}"), &text(gcd(a.into(), b.into())));
@@ -101,7 +108,10 @@ fn numbers(t: &mut Tally) {
 fn signs(t: &mut Tally) {
     for s in all_signs() {
         let a = s.name();
-        t.same(&format!("sign neg {a}"), Sign::of_all(s.some().into_iter().map(|n| -n)).name());
+        t.same(
+            &format!("sign neg {a}"),
+            Sign::of_all(s.some().into_iter().map(|n| -n)).name(),
+        );
         for u in all_signs() {
             let b = u.name();
             let two = |op: &str| format!("sign {op} {a} {b}");
@@ -134,8 +144,15 @@ fn signs(t: &mut Tally) {
             };
             t.same(&two("weak_cmp"), cell);
             let all = |how: Comparison| s.compare(how, u) == POSITIVE;
-            let strict = [(Comparison::Less, "Less"), (Comparison::Greater, "Greater"), (Comparison::Equal, "Equal")];
-            let strict = strict.iter().find(|(how, _)| all(*how)).map_or("None", |(_, name)| name);
+            let strict = [
+                (Comparison::Less, "Less"),
+                (Comparison::Greater, "Greater"),
+                (Comparison::Equal, "Equal"),
+            ];
+            let strict = strict
+                .iter()
+                .find(|(how, _)| all(*how))
+                .map_or("None", |(_, name)| name);
             t.same(&two("strict_cmp"), strict);
         }
     }
@@ -160,7 +177,10 @@ fn intervals(t: &mut Tally) {
         t.same(&format!("sign of_interval {} {}", x.0, x.1), wide.sign().name());
         let two = |family: &str, op: &str| format!("{family} {op} {} {} {} {}", x.0, x.1, y.0, y.1);
         if ![x.0, x.1, y.0, y.1].into_iter().any(infinite) {
-            t.same(&format!("interval neg {} {}", x.0, x.1), &ask(&format!("mended interval neg {} {}", x.0, x.1)));
+            t.same(
+                &format!("interval neg {} {}", x.0, x.1),
+                &ask(&format!("mended interval neg {} {}", x.0, x.1)),
+            );
             for op in ["add", "sub", "mul"] {
                 let mended = ask(&two("mended interval", op));
                 if mended != "refused by 2" {
@@ -182,10 +202,22 @@ fn intervals(t: &mut Tally) {
         t.same(&two("mended interval", "equals"), &ask(&two("interval", "equals")));
         // error 4: ranges that touch; there < and > are right but not sharp
         if x.1 != y.0 && x.0 != y.1 {
-            t.same(&two("mended interval", "less"), &ask(&two("transfer interval binary", "10")));
-            t.same(&two("mended interval", "greater"), &ask(&two("transfer interval binary", "11")));
-            t.same(&two("mended interval", "less_or_equal"), &ask(&two("transfer interval binary", "12")));
-            t.same(&two("mended interval", "greater_or_equal"), &ask(&two("transfer interval binary", "13")));
+            t.same(
+                &two("mended interval", "less"),
+                &ask(&two("transfer interval binary", "10")),
+            );
+            t.same(
+                &two("mended interval", "greater"),
+                &ask(&two("transfer interval binary", "11")),
+            );
+            t.same(
+                &two("mended interval", "less_or_equal"),
+                &ask(&two("transfer interval binary", "12")),
+            );
+            t.same(
+                &two("mended interval", "greater_or_equal"),
+                &ask(&two("transfer interval binary", "13")),
+            );
         }
     }
 }
@@ -202,16 +234,31 @@ fn small_intervals(t: &mut Tally) {
             return Ok(w.bottom());
         }
         let hull = range(*numbers.iter().min().unwrap(), *numbers.iter().max().unwrap());
-        if w.fits(hull.min) && w.fits(hull.max) { Ok(hull) } else { Err(2) }
+        if w.fits(hull.min) && w.fits(hull.max) {
+            Ok(hull)
+        } else {
+            Err(2)
+        }
     };
     for x in &values {
-        t.hold(w.interval_neg(*x) == hull((x.min..=x.max).map(|n| -n).collect()), || format!("neg {x:?}"));
+        t.hold(
+            w.interval_neg(*x) == hull((x.min..=x.max).map(|n| -n).collect()),
+            || format!("neg {x:?}"),
+        );
         for y in &values {
-            let pairs: Vec<(i128, i128)> = (x.min..=x.max).flat_map(|a| (y.min..=y.max).map(move |b| (a, b))).collect();
+            let pairs: Vec<(i128, i128)> = (x.min..=x.max)
+                .flat_map(|a| (y.min..=y.max).map(move |b| (a, b)))
+                .collect();
             let all = |work: fn(i128, i128) -> i128| hull(pairs.iter().map(|(a, b)| work(*a, *b)).collect());
-            t.hold(w.interval_corners(*x, *y, |a, b| a + b) == all(|a, b| a + b), || format!("add {x:?} {y:?}"));
-            t.hold(w.interval_corners(*x, *y, |a, b| a - b) == all(|a, b| a - b), || format!("sub {x:?} {y:?}"));
-            t.hold(w.interval_corners(*x, *y, |a, b| a * b) == all(|a, b| a * b), || format!("mul {x:?} {y:?}"));
+            t.hold(w.interval_corners(*x, *y, |a, b| a + b) == all(|a, b| a + b), || {
+                format!("add {x:?} {y:?}")
+            });
+            t.hold(w.interval_corners(*x, *y, |a, b| a - b) == all(|a, b| a - b), || {
+                format!("sub {x:?} {y:?}")
+            });
+            t.hold(w.interval_corners(*x, *y, |a, b| a * b) == all(|a, b| a * b), || {
+                format!("mul {x:?} {y:?}")
+            });
             if let Ok(rem) = w.interval_rem(*x, *y) {
                 let good = pairs.iter().filter(|p| p.1 != 0).all(|(a, b)| rem.holds(a % b));
                 t.hold(good && w.canonical(rem), || format!("rem {x:?} {y:?}"));
@@ -224,12 +271,16 @@ fn small_intervals(t: &mut Tally) {
                     0 => range(0, 0),
                     _ => range(0, 1),
                 };
-                t.hold(w.interval_compare(how, *x, *y) == Ok(expected), || format!("{how:?} {x:?} {y:?}"));
+                t.hold(w.interval_compare(how, *x, *y) == Ok(expected), || {
+                    format!("{how:?} {x:?} {y:?}")
+                });
             }
             let narrow = w.interval_narrow(*x, *y).unwrap();
             if y.min <= x.min && x.max <= y.max {
                 let between = narrow.min <= x.min && x.max <= narrow.max && y.min <= narrow.min && narrow.max <= y.max;
-                t.hold(between || (x.empty() && narrow.empty()), || format!("narrow {x:?} {y:?}"));
+                t.hold(between || (x.empty() && narrow.empty()), || {
+                    format!("narrow {x:?} {y:?}")
+                });
             }
         }
     }
@@ -257,7 +308,11 @@ fn congruences(t: &mut Tally) {
     let mut r = Random::new(13);
     for _ in 0..60_000 {
         let (x, y) = (canonical(&mut r), canonical(&mut r));
-        let y = if r.once_in(4) { (x.0, y.1.max(x.0.saturating_add(1))) } else { y };
+        let y = if r.once_in(4) {
+            (x.0, y.1.max(x.0.saturating_add(1)))
+        } else {
+            y
+        };
         let y = if y == (i64::MAX, i64::MAX) { (0, 1) } else { y };
         let two = |family: &str, op: &str| format!("{family} {op} {} {} {} {}", x.0, x.1, y.0, y.1);
         for op in ["add", "sub", "mul", "div", "join"] {
@@ -268,21 +323,38 @@ fn congruences(t: &mut Tally) {
         }
         let ported = ask(&format!("congruence neg {} {}", x.0, x.1));
         if !ported.starts_with("refused") {
-            t.same(&format!("mended congruence neg {} {}", x.0, x.1), &made_canonical(&ported));
+            t.same(
+                &format!("mended congruence neg {} {}", x.0, x.1),
+                &made_canonical(&ported),
+            );
         }
         let (a, b) = (spaced(x.0.into(), x.1.into()), spaced(y.0.into(), y.1.into()));
         t.same(&two("congruence", "logical_and"), &a.and(b).text());
         t.same(&two("congruence", "logical_or"), &a.or(b).text());
         t.same(&format!("congruence logical_not {} {}", x.0, x.1), &a.not().text());
-        for (number, op) in [(10, "less"), (11, "greater"), (12, "less_or_equal"), (13, "greater_or_equal")] {
-            t.same(&two("mended congruence", op), &ask(&two("transfer congruence binary", &number.to_string())));
+        for (number, op) in [
+            (10, "less"),
+            (11, "greater"),
+            (12, "less_or_equal"),
+            (13, "greater_or_equal"),
+        ] {
+            t.same(
+                &two("mended congruence", op),
+                &ask(&two("transfer congruence binary", &number.to_string())),
+            );
         }
         // error 5: beside a negative single number, and bottom for disjoint
         let negative = [x, y].iter().any(|v| v.1 == 0 && v.0 < 0);
         if !negative {
-            t.same(&two("congruence", "partial_cmp"), &ask(&two("mended congruence", "partial_cmp")));
+            t.same(
+                &two("congruence", "partial_cmp"),
+                &ask(&two("mended congruence", "partial_cmp")),
+            );
             if x != (1, 1) && y != (1, 1) {
-                t.same(&two("congruence", "disjoint"), &ask(&two("mended congruence", "disjoint")));
+                t.same(
+                    &two("congruence", "disjoint"),
+                    &ask(&two("mended congruence", "disjoint")),
+                );
                 t.same(&two("congruence", "equals"), &ask(&two("mended congruence", "equals")));
                 meets(t, &ask(&two("congruence", "meet")), a, b);
             }
@@ -298,10 +370,14 @@ fn meets(t: &mut Tally, ported: &str, a: Congruence, b: Congruence) {
         return;
     }
     let modulus = ported.split(" mod ").nth(1).unwrap();
-    t.hold(modulus == mended.modulus.to_string(), || format!("meet {a:?} {b:?}: {ported}"));
+    t.hold(modulus == mended.modulus.to_string(), || {
+        format!("meet {a:?} {b:?}: {ported}")
+    });
     if mended != NOTHING && mended.modulus > 0 {
         let both = a.holds(mended.constant) && b.holds(mended.constant);
-        t.hold(both && mended.modulus == lcm(a.modulus, b.modulus), || format!("meet {a:?} {b:?}"));
+        t.hold(both && mended.modulus == lcm(a.modulus, b.modulus), || {
+            format!("meet {a:?} {b:?}")
+        });
     }
 }
 
@@ -319,7 +395,9 @@ fn small_congruences(t: &mut Tally) {
     for x in &values {
         let neg = w.congruence_neg(*x);
         let fits = x.modulus != 0 || w.fits(-x.constant);
-        t.hold(inner.iter().all(|n| neg.holds(*n) == (fits && x.holds(-*n))), || format!("neg {x:?}"));
+        t.hold(inner.iter().all(|n| neg.holds(*n) == (fits && x.holds(-*n))), || {
+            format!("neg {x:?}")
+        });
         for y in &values {
             let what = |op: &str, v: Congruence| format!("small {op} {x:?} {y:?}: {v:?}");
             let sound = |v: Congruence| values.contains(&v);
@@ -335,12 +413,18 @@ fn small_congruences(t: &mut Tally) {
             let meet = w.congruence_meet(*x, *y);
             let fits = x.modulus == 0 || y.modulus == 0 || w.fits(lcm(x.modulus, y.modulus));
             let exact = window.clone().all(|n| meet.holds(n) == (x.holds(n) && y.holds(n)));
-            t.hold(sound(meet) && if fits || !common { exact } else { meet == *x }, || what("meet", meet));
+            t.hold(sound(meet) && if fits || !common { exact } else { meet == *x }, || {
+                what("meet", meet)
+            });
             let join = w.congruence_join(*x, *y);
             let apart = x.modulus == 0 && y.modulus == 0 && (x.constant - y.constant).abs() > w.greatest;
-            let least = values.iter().all(|v| !(within(*x, *v) && within(*y, *v)) || within(join, *v));
+            let least = values
+                .iter()
+                .all(|v| !(within(*x, *v) && within(*y, *v)) || within(join, *v));
             let covers = within(*x, join) && within(*y, join);
-            t.hold(sound(join) && covers && if apart { join == ALL } else { least }, || what("join", join));
+            t.hold(sound(join) && covers && if apart { join == ALL } else { least }, || {
+                what("join", join)
+            });
             results(t, w, &values, *x, *y);
         }
     }
@@ -351,53 +435,78 @@ fn results(t: &mut Tally, w: Width, values: &[Congruence], x: Congruence, y: Con
     let some: Vec<(i128, i128)> = {
         let of = |v: Congruence| (-60..=60).filter(|n| v.holds(*n)).collect::<Vec<i128>>();
         let right = of(y);
-        of(x).into_iter().flat_map(|a| right.iter().map(|b| (a, *b)).collect::<Vec<_>>()).collect()
+        of(x)
+            .into_iter()
+            .flat_map(|a| right.iter().map(|b| (a, *b)).collect::<Vec<_>>())
+            .collect()
     };
     let singles = x.modulus == 0 && y.modulus == 0;
     for (name, v, work) in [
         ("add", w.congruence_add(x, y), (|a, b| a + b) as fn(i128, i128) -> i128),
         ("sub", w.congruence_sub(x, y), |a, b| a - b),
     ] {
-        let mut reached: Vec<i128> = some.iter().map(|(a, b)| work(*a, *b)).filter(|n| (-20..=20).contains(n)).collect();
+        let mut reached: Vec<i128> = some
+            .iter()
+            .map(|(a, b)| work(*a, *b))
+            .filter(|n| (-20..=20).contains(n))
+            .collect();
         reached.sort_unstable();
         reached.dedup();
         if singles {
             reached.retain(|n| w.fits(*n));
         }
         let shown: Vec<i128> = (-20..=20).filter(|n| v.holds(*n)).collect();
-        t.hold(reached == shown && values.contains(&v), || format!("small {name} {x:?} {y:?}: {v:?}"));
+        t.hold(reached == shown && values.contains(&v), || {
+            format!("small {name} {x:?} {y:?}: {v:?}")
+        });
     }
     let mul = w.congruence_mul(x, y);
-    let good = some.iter().map(|(a, b)| a * b).all(|n| mul.holds(n) || (singles && !w.fits(n)));
-    t.hold(good && values.contains(&mul), || format!("small mul {x:?} {y:?}: {mul:?}"));
+    let good = some
+        .iter()
+        .map(|(a, b)| a * b)
+        .all(|n| mul.holds(n) || (singles && !w.fits(n)));
+    t.hold(good && values.contains(&mul), || {
+        format!("small mul {x:?} {y:?}: {mul:?}")
+    });
     let div = w.congruence_div(x, y);
     let mut quotients = some.iter().filter(|p| p.1 != 0).map(|(a, b)| a / b);
     let good = quotients.all(|n| div.holds(n) || (singles && !w.fits(n)));
-    t.hold(good && values.contains(&div), || format!("small div {x:?} {y:?}: {div:?}"));
+    t.hold(good && values.contains(&div), || {
+        format!("small div {x:?} {y:?}: {div:?}")
+    });
 }
 
 /// Reading and writing undo each other; what a passed check shows holds in every run tried; a refused step can stop so.
 fn sheets(t: &mut Tally) {
     let mut r = Random::new(17);
     for k in 0..4_000 {
-        let n = if k % 50 == 0 { r.below(257) as usize } else { r.below(14) as usize };
+        let n = if k % 50 == 0 {
+            r.below(257) as usize
+        } else {
+            r.below(14) as usize
+        };
         let made = steps(&mut r, n);
         let bytes = written(&made);
-        t.hold(bytes.len() <= 5378 && sheet::read(&bytes) == Ok(made.clone()), || format!("read {made:?}"));
+        t.hold(bytes.len() <= 5378 && sheet::read(&bytes) == Ok(made.clone()), || {
+            format!("read {made:?}")
+        });
         let (shown, refused) = sheet::check(W64, &made);
         let passed = &made[..shown.len()];
         for _ in 0..8 {
             let given: Vec<i128> = inputs(&mut r, passed).into_iter().map(i128::from).collect();
             let good = match sheet::run(W64, passed, &given) {
-                sheet::Run::Ended(values) => values.iter().zip(&shown).all(|(n, v)| {
-                    v.range.holds(*n) && v.spacing.holds(*n) && v.sign.0 & Sign::of_number(*n).0 != 0
-                }),
+                sheet::Run::Ended(values) => values
+                    .iter()
+                    .zip(&shown)
+                    .all(|(n, v)| v.range.holds(*n) && v.spacing.holds(*n) && v.sign.0 & Sign::of_number(*n).0 != 0),
                 _ => false,
             };
             t.hold(good, || format!("run {passed:?} {given:?}"));
         }
         if let Some(by) = refused {
-            t.hold(can_stop(&made[shown.len()], &shown, by), || format!("refused {made:?} by {by}"));
+            t.hold(can_stop(&made[shown.len()], &shown, by), || {
+                format!("refused {made:?} by {by}")
+            });
         }
         let line = sheet_and_inputs(&mut r);
         let (bytes, _) = sheet::sheet_line(line.as_bytes()).unwrap();
@@ -413,10 +522,18 @@ fn can_stop(step: &sheet::Step, shown: &[sheet::Shown], by: u8) -> bool {
         Some(sheet::Fields::Operands(many)) => step[1..1 + many].iter().map(|k| shown[*k as usize].range).collect(),
         _ => return false,
     };
-    let some = |i: Interval| [i.min, i.max, -1, 0, 1].into_iter().filter(move |n| i.holds(*n)).collect::<Vec<i128>>();
+    let some = |i: Interval| {
+        [i.min, i.max, -1, 0, 1]
+            .into_iter()
+            .filter(move |n| i.holds(*n))
+            .collect::<Vec<i128>>()
+    };
     let mut tries: Vec<Vec<i128>> = vec![Vec::new()];
     for i in ranges {
-        tries = tries.iter().flat_map(|t| some(i).into_iter().map(|n| [t.clone(), vec![n]].concat())).collect();
+        tries = tries
+            .iter()
+            .flat_map(|t| some(i).into_iter().map(|n| [t.clone(), vec![n]].concat()))
+            .collect();
     }
     tries.iter().any(|x| sheet::run_operator(W64, step[0], x) == Err(by))
 }

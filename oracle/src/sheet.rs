@@ -1,7 +1,5 @@
 //! Sheets: bytes to steps and back, the run and the check, straight from document 01.
-use crate::model::{
-    ALL, Comparison, Congruence, Interval, Sign, W64, Width, range, spaced,
-};
+use crate::model::{range, spaced, Comparison, Congruence, Interval, Sign, Width, ALL, W64};
 use crate::words::{bytes, hex, listed, number, numbers, refused};
 
 /// Operator, fields, zeros.
@@ -37,7 +35,9 @@ pub type Fault = (usize, u8);
 pub fn read_number(bytes: &[u8], at: usize) -> Result<(u64, usize), Fault> {
     let mut n: u128 = 0;
     for k in 0..10 {
-        let Some(b) = bytes.get(at + k) else { return Err((bytes.len(), 5)) };
+        let Some(b) = bytes.get(at + k) else {
+            return Err((bytes.len(), 5));
+        };
         n += u128::from(b & 0x7F) << (7 * k);
         if b & 0x80 == 0 {
             let shortest = *b != 0 || k == 0;
@@ -52,7 +52,11 @@ pub fn read_number(bytes: &[u8], at: usize) -> Result<(u64, usize), Fault> {
 
 pub fn unfold(n: u64) -> i64 {
     let half = (n / 2) as i64;
-    if n % 2 == 0 { half } else { -half - 1 }
+    if n % 2 == 0 {
+        half
+    } else {
+        -half - 1
+    }
 }
 
 pub fn fold(n: i64) -> u64 {
@@ -68,7 +72,9 @@ pub fn read(bytes: &[u8]) -> Result<Vec<Step>, Fault> {
     let mut steps = Vec::new();
     for k in 0..count {
         let (operator, next) = read_number(bytes, at)?;
-        let Some(shape) = fields(operator) else { return Err((at, 7)) };
+        let Some(shape) = fields(operator) else {
+            return Err((at, 7));
+        };
         at = next;
         let mut step: Step = [operator as i64, 0, 0, 0];
         match shape {
@@ -153,7 +159,14 @@ fn write_step(out: &mut Vec<u8>, k: usize, step: &[i64]) -> Result<(), u8> {
     }
     put_number(out, operator);
     for n in values {
-        put_number(out, if shape == Fields::Operands(used) { *n as u64 } else { fold(*n) });
+        put_number(
+            out,
+            if shape == Fields::Operands(used) {
+                *n as u64
+            } else {
+                fold(*n)
+            },
+        );
     }
     Ok(())
 }
@@ -172,7 +185,13 @@ pub enum Run {
 pub fn run_operator(w: Width, operator: i64, x: &[i128]) -> Result<i128, u8> {
     let flag = |b: bool| Ok(b as i128);
     let fit = |n: i128| if w.fits(n) { Ok(n) } else { Err(13) };
-    let truths = |many: usize| if x[..many].iter().all(|n| *n == 0 || *n == 1) { Ok(()) } else { Err(14) };
+    let truths = |many: usize| {
+        if x[..many].iter().all(|n| *n == 0 || *n == 1) {
+            Ok(())
+        } else {
+            Err(14)
+        }
+    };
     match operator {
         2 => fit(x[0] + x[1]),
         3 => fit(x[0] - x[1]),
@@ -203,8 +222,11 @@ fn operands<T: Copy>(step: &Step, earlier: &[T]) -> Vec<T> {
 }
 
 pub fn run(w: Width, steps: &[Step], inputs: &[i128]) -> Run {
-    let ranges: Vec<Interval> =
-        steps.iter().filter(|s| s[0] == 1).map(|s| range(s[1].into(), s[2].into())).collect();
+    let ranges: Vec<Interval> = steps
+        .iter()
+        .filter(|s| s[0] == 1)
+        .map(|s| range(s[1].into(), s[2].into()))
+        .collect();
     if ranges.len() != inputs.len() || ranges.iter().zip(inputs).any(|(r, n)| !r.holds(*n)) {
         return Run::Refused(15);
     }
@@ -234,12 +256,20 @@ pub struct Shown {
 }
 
 fn show_constant(n: i128) -> Shown {
-    Shown { range: range(n, n), spacing: spaced(n, 0), sign: Sign::of_number(n) }
+    Shown {
+        range: range(n, n),
+        spacing: spaced(n, 0),
+        sign: Sign::of_number(n),
+    }
 }
 
 fn show_input(low: i128, high: i128) -> Shown {
     let range = range(low, high);
-    Shown { range, spacing: if low == high { spaced(low, 0) } else { ALL }, sign: range.sign() }
+    Shown {
+        range,
+        spacing: if low == high { spaced(low, 0) } else { ALL },
+        sign: range.sign(),
+    }
 }
 
 fn comparison(operator: i64) -> Option<Comparison> {
@@ -256,7 +286,13 @@ fn comparison(operator: i64) -> Option<Comparison> {
 const BOTH: Interval = Interval { min: 0, max: 1 };
 
 fn show_range(w: Width, operator: i64, x: &[Interval]) -> Result<Interval, u8> {
-    let truths = |many: usize| if x[..many].iter().all(|i| i.min >= 0 && i.max <= 1) { Ok(()) } else { Err(14) };
+    let truths = |many: usize| {
+        if x[..many].iter().all(|i| i.min >= 0 && i.max <= 1) {
+            Ok(())
+        } else {
+            Err(14)
+        }
+    };
     let decided = |i: Interval, n: i128| i == range(n, n);
     if let Some(how) = comparison(operator) {
         return Ok(w.interval_compare(how, x[0], x[1]).unwrap());
