@@ -1,3 +1,4 @@
+pub mod Ascii
 pub mod Room
 pub mod Decimal
 pub mod Number
