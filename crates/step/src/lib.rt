@@ -1,6 +1,7 @@
 // Each operator once: what it does to numbers, and to shown values.
 use refusal::Refusal;
 
+pub mod kind; // kind.rt: what a step of a sheet does
 pub mod run; // run.rt: on numbers
 
 // What a step other than an input does. An operator takes up to three operands, and passes over those that it has no use for.
@@ -27,4 +28,12 @@ pub enum Operator {
 pub enum Outcome {
     Gives(i64),
     Stops(Refusal),
+}
+
+// What a step of a sheet does.
+pub enum Action {
+    // Takes a number from outside, from the low to the high end.
+    Input(i64, i64),
+    // Does an operator to what earlier steps gave, at these places.
+    Does(Operator, usize, usize, usize),
 }
