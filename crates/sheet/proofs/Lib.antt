@@ -1,0 +1,5 @@
+pub mod Groups
+pub mod Written
+pub mod Inverse
+pub mod Signs
+pub mod Parts
