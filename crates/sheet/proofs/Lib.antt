@@ -3,3 +3,7 @@ pub mod Written
 pub mod Inverse
 pub mod Signs
 pub mod Parts
+pub mod Sizes
+pub mod Tested
+pub mod Listed
+pub mod Plans

@@ -36,15 +36,15 @@ stepAt s at k = andThen (readNumber s at) (λ op p. pick (ltb op 17) (fieldsAt (
 abbrev pub rowOf : ℤ → Fields
 rowOf op = fieldsOf (up op)
 
--- what is wrong with the fields of step k, in the order 1, 8, 9
-abbrev pub fieldsFault : Fields → (k : ℕ) (x y z : ℤ) → Fault
-fieldsFault f k x y z =
-    orElse (unusedFault (first f) x)
-    (orElse (unusedFault (second f) y)
-    (orElse (unusedFault (third f) z)
-    (orElse (fieldFault (first f) k (pos 0) x)
-    (orElse (fieldFault (second f) k x y)
-    (fieldFault (third f) k x z)))))
+-- what is wrong with the fields of step k: unused ones first, and then the others
+abbrev pub unusedFaults : Fields → (x y z : ℤ) → Fault
+unusedFaults f x y z = orElse (unusedFault (first f) x) (orElse (unusedFault (second f) y) (unusedFault (third f) z))
+
+abbrev pub usedFaults : Fields → (k : ℕ) (x y z : ℤ) → Fault
+usedFaults f k x y z = orElse (fieldFault (first f) k (pos 0) x) (orElse (fieldFault (second f) k x y) (fieldFault (third f) k x z))
+
+unfoldable pub fieldsFault : Fields → (k : ℕ) (x y z : ℤ) → Fault
+fieldsFault f k x y z = orElse (unusedFaults f x y z) (usedFaults f k x y z)
 
 -- what is wrong with step k, in the order 7, 1, 8, 9
 unfoldable pub stepFault : ℕ → Step → Fault

@@ -1,6 +1,5 @@
 // The operators: one row of fields for each.
 ghost use mathlib.Core.Path.{_≡_};
-ghost use Prim.Native.Nat.{_<_};
 ghost use Rattle.sheet.specs.Operator.{fieldsOf, first, second, third};
 
 // What a field holds.
@@ -45,12 +44,16 @@ const ROWS: [Fields; 17] = [
     Fields::Three, // 16 choose
 ];
 
-// The row of an operator.
-pub fn fields_of(op: usize) -> Fields
-    requires { ⌜ op < 17 ⌝ }
+// The row of an operator; that of a constant for an unknown one.
+pub fn fields_of(op: u64) -> Fields
     ensures { λ r. ⌜ r ≡ fieldsOf op ⌝ }
 {
-    ROWS[op]
+    if op < 17 {
+        let i = op as usize;
+        ROWS[i]
+    } else {
+        Fields::Constant
+    }
 }
 
 // What the first field holds.

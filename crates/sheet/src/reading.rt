@@ -117,7 +117,7 @@ pub fn read_step(s: &[u8], at: usize, k: usize) -> StepRead
     match read_number(s, at) {
         NumberRead::Value(op, p) => {
             if op < 17 {
-                read_fields(s, p, op, fields_of(op as usize), k)
+                read_fields(s, p, op, fields_of(op), k)
             } else {
                 StepRead::Refused(Refusal::UnknownOperator, at)
             }

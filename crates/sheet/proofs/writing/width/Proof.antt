@@ -5,10 +5,10 @@ use borrow.Author.Needs.{needs}
 use lib.ListN.{length}
 use Rattle.sheet.specs.Number.{writeNumber, groupsOf}
 use Rattle.sheet.proofs.Written.{not-tenth, shorter, groups-last, groups-more}
-use Rattle.sheet.proofs.number.width.Statement.{statement}
-use Rattle.sheet.proofs.number.width.Tie as tie
-use Rattle.sheet.proofs.number.width.Reads as reads
-use Rattle.sheet.proofs.number.width.Lts as lts
+use Rattle.sheet.proofs.writing.width.Statement.{statement}
+use Rattle.sheet.proofs.writing.width.Tie as tie
+use Rattle.sheet.proofs.writing.width.Reads as reads
+use Rattle.sheet.proofs.writing.width.Lts as lts
 
 abbrev Inv-loop : tie.InvT-loop
 Inv-loop n m₀ k₀ m k =
