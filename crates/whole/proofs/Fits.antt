@@ -54,3 +54,16 @@ module _ (w : Width) where
   -- what lies between two numbers that fit
   pub fits-between : (a z b : ℤ) → SFits w a → SFits w b → a ≤ℤ z → z ≤ℤ b → SFits w z
   fits-between a z b p q h k = omega (machine, range p, range q)
+
+pub zero-fits : {w : Width} → SFits w (pos 0)
+zero-fits {w} = record { sfits = pow-pos (hbits w) }
+
+-- -1 and the least number
+pub ones-fits : {w : Width} → SFits w (negsuc 0)
+ones-fits {w} = record { sfits = pow-pos (hbits w) }
+
+pub least-fits : (w : Width) → SFits w (least w)
+least-fits w = omega (machine, pow-pos (hbits w))
+
+pub greatest-fits : (w : Width) → SFits w (greatest w)
+greatest-fits w = omega (machine, pow-pos (hbits w))

@@ -3,8 +3,15 @@ pub mod Shapes
 pub mod Ring
 pub mod Corners
 pub mod Fits
-pub mod Tests
+pub mod Decides
+pub mod Bits
+pub mod Flags
+pub mod Sums
+pub mod Products
+pub mod Calls
 pub mod Divide
 pub mod Divides
-pub mod Gcd
+pub mod CommonDivisor
 pub mod Congruence
+pub mod Floor
+pub mod Claims

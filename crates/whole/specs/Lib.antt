@@ -3,3 +3,4 @@ pub mod Test
 pub mod Whole
 pub mod Range
 pub mod Divides
+pub mod Exact

@@ -1,4 +1,262 @@
-// Whole numbers.
-pub fn nothing() -> u64 {
-    0
+// Whole numbers as i64 has them: exact sums, differences and products or that they don't fit, saturated ones, the least and
+// the greatest, the floored remainder, and the common divisor and multiple. The laws stand in proofs/.
+ghost use mathlib.Core.Path.{_≡_};
+ghost use mathlib.Core.Bool.{Bool, true, false};
+ghost use Prim.Native.Nat.{ℕ, _*_};
+ghost use lib.Dec.{leb};
+ghost use lib.IntN.{ℤ, pos, negsuc, negℤ, natAbs, _+ℤ_, _-ℤ_, _*ℤ_};
+ghost use mir.Syntax.{w64};
+ghost use Rattle.whole.specs.Whole.{up, minℤ, maxℤ, min4, max4};
+ghost use Rattle.whole.specs.Range.{fits?, clamp};
+ghost use Rattle.whole.specs.Divides as divides;
+ghost use Rattle.whole.specs.Exact.{exactly};
+
+pub const MAX: i64 = 9223372036854775807;
+
+pub const MIN: i64 = -9223372036854775808;
+
+// A whole number that was asked for, or that no i64 is it (refusal 2 of document 01).
+pub enum Exact {
+    Is(i64),
+    DoesNotFit,
+}
+
+// How two values compare: one of three ways, or none.
+pub enum Order {
+    Less,
+    Equal,
+    Greater,
+    None,
+}
+
+// ---- the least and the greatest
+
+pub fn min_of(a: i64, b: i64) -> i64
+    ensures { λ r. ⌜ r ≡ minℤ a b ⌝ }
+{
+    if a <= b { a } else { b }
+}
+
+pub fn max_of(a: i64, b: i64) -> i64
+    ensures { λ r. ⌜ r ≡ maxℤ a b ⌝ }
+{
+    if a <= b { b } else { a }
+}
+
+pub fn min_of_four(a: i64, b: i64, c: i64, d: i64) -> i64
+    ensures { λ r. ⌜ r ≡ min4 a b c d ⌝ }
+{
+    min_of(min_of(a, b), min_of(c, d))
+}
+
+pub fn max_of_four(a: i64, b: i64, c: i64, d: i64) -> i64
+    ensures { λ r. ⌜ r ≡ max4 a b c d ⌝ }
+{
+    max_of(max_of(a, b), max_of(c, d))
+}
+
+// |x|, which fits u64 also for the least number.
+pub fn magnitude(x: i64) -> u64
+    ensures { λ r. ⌜ r ≡ natAbs x ⌝ }
+{
+    if x < 0 { (!x as u64) + 1 } else { x as u64 }
+}
+
+// The number itself, or 0 if it is negative.
+pub fn natural(x: i64) -> u64
+    ensures { λ r. ⌜ r ≡ up x ⌝ }
+{
+    if x < 0 { 0 } else { x as u64 }
+}
+
+// ---- whether a result fits, asked before it is made
+
+pub fn neg_fits(x: i64) -> bool
+    ensures { λ r. ⌜ r ≡ fits? w64 (negℤ x) ⌝ }
+{
+    x != MIN
+}
+
+pub fn add_fits(x: i64, y: i64) -> bool
+    ensures { λ r. ⌜ r ≡ fits? w64 (x +ℤ y) ⌝ }
+{
+    if y >= 0 { x <= MAX - y } else { x >= MIN - y }
+}
+
+pub fn sub_fits(x: i64, y: i64) -> bool
+    ensures { λ r. ⌜ r ≡ fits? w64 (x -ℤ y) ⌝ }
+{
+    if y >= 0 { x >= MIN + y } else { x <= MAX + y }
+}
+
+// Whether a * b is at most limit.
+fn product_within(a: u64, b: u64, limit: u64) -> bool
+    ensures { λ r. ⌜ r ≡ leb (a * b) limit ⌝ }
+{
+    if b == 0 { true } else { a <= limit / b }
+}
+
+pub fn mul_fits(x: i64, y: i64) -> bool
+    ensures { λ r. ⌜ r ≡ fits? w64 (x *ℤ y) ⌝ }
+{
+    let a = magnitude(x);
+    let b = magnitude(y);
+    if x < 0 {
+        if y < 0 {
+            product_within(a, b, 9223372036854775807)
+        } else {
+            product_within(a, b, 9223372036854775808)
+        }
+    } else {
+        if y < 0 {
+            product_within(a, b, 9223372036854775808)
+        } else {
+            product_within(a, b, 9223372036854775807)
+        }
+    }
+}
+
+// ---- the exact result, or that it doesn't fit
+
+pub fn exact_neg(x: i64) -> Exact
+    ensures { λ r. ⌜ r ≡ exactly w64 (negℤ x) ⌝ }
+{
+    if neg_fits(x) {
+        Exact::Is(-x)
+    } else {
+        Exact::DoesNotFit
+    }
+}
+
+pub fn exact_add(x: i64, y: i64) -> Exact
+    ensures { λ r. ⌜ r ≡ exactly w64 (x +ℤ y) ⌝ }
+{
+    if add_fits(x, y) {
+        Exact::Is(x + y)
+    } else {
+        Exact::DoesNotFit
+    }
+}
+
+pub fn exact_sub(x: i64, y: i64) -> Exact
+    ensures { λ r. ⌜ r ≡ exactly w64 (x -ℤ y) ⌝ }
+{
+    if sub_fits(x, y) {
+        Exact::Is(x - y)
+    } else {
+        Exact::DoesNotFit
+    }
+}
+
+pub fn exact_mul(x: i64, y: i64) -> Exact
+    ensures { λ r. ⌜ r ≡ exactly w64 (x *ℤ y) ⌝ }
+{
+    if mul_fits(x, y) {
+        Exact::Is(x * y)
+    } else {
+        Exact::DoesNotFit
+    }
+}
+
+// ---- the nearest number that fits
+
+pub fn saturating_add(x: i64, y: i64) -> i64
+    ensures { λ r. ⌜ r ≡ clamp w64 (x +ℤ y) ⌝ }
+{
+    if add_fits(x, y) {
+        x + y
+    } else if y < 0 {
+        MIN
+    } else {
+        MAX
+    }
+}
+
+pub fn saturating_mul(x: i64, y: i64) -> i64
+    ensures { λ r. ⌜ r ≡ clamp w64 (x *ℤ y) ⌝ }
+{
+    if mul_fits(x, y) {
+        x * y
+    } else if x < 0 {
+        if y < 0 { MAX } else { MIN }
+    } else {
+        if y < 0 { MIN } else { MAX }
+    }
+}
+
+// ---- divisibility
+
+// The number from 0 to |m| - 1 that differs from x by a multiple of m; x itself if m is 0.
+pub fn floored_remainder(x: i64, m: i64) -> i64
+    ensures { λ r. ⌜ r ≡ divides.floorRem x m ⌝ }
+{
+    if m == 0 {
+        return x;
+    }
+    if m == -1 {
+        return 0;
+    }
+    let r = x % m;
+    if r >= 0 {
+        r
+    } else if m > 0 {
+        r + m
+    } else {
+        r - m
+    }
+}
+
+// The greatest common divisor, by repeated remainder.
+pub fn gcd_u64(a: u64, b: u64) -> u64
+    ensures { λ r. ⌜ r ≡ divides.gcd a b ⌝ }
+{
+    let mut x = a;
+    let mut y = b;
+    while y != 0 {
+        let z = x % y;
+        x = y;
+        y = z;
+    }
+    x
+}
+
+// A natural number as an i64, or that it doesn't fit.
+pub fn exact_of(n: u64) -> Exact
+    ensures { λ r. ⌜ r ≡ exactly w64 (pos n) ⌝ }
+{
+    if n <= 9223372036854775807 {
+        Exact::Is(n as i64)
+    } else {
+        Exact::DoesNotFit
+    }
+}
+
+// The greatest common divisor of the absolute values: never negative, and 2^63 doesn't fit.
+pub fn gcd(a: i64, b: i64) -> Exact
+    ensures { λ r. ⌜ r ≡ exactly w64 (pos (divides.gcd (natAbs a) (natAbs b))) ⌝ }
+{
+    exact_of(gcd_u64(magnitude(a), magnitude(b)))
+}
+
+// The least common multiple of two natural numbers, where it is an i64.
+pub fn lcm_u64(a: u64, b: u64) -> Exact
+    ensures { λ r. ⌜ r ≡ exactly w64 (pos (divides.lcm a b)) ⌝ }
+{
+    let g = gcd_u64(a, b);
+    if g == 0 {
+        return Exact::Is(0);
+    }
+    let q = a / g;
+    if product_within(q, b, 9223372036854775807) {
+        Exact::Is((q * b) as i64)
+    } else {
+        Exact::DoesNotFit
+    }
+}
+
+// The least common multiple of the absolute values, 0 beside 0.
+pub fn lcm(a: i64, b: i64) -> Exact
+    ensures { λ r. ⌜ r ≡ exactly w64 (pos (divides.lcm (natAbs a) (natAbs b))) ⌝ }
+{
+    lcm_u64(magnitude(a), magnitude(b))
 }
