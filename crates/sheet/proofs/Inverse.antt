@@ -14,6 +14,8 @@ use borrow.Author.Tests.{ltb-true, ltb-false, lt-ltb, le-ltb, eq-eqb, ne-eqb, eq
 use Rattle.whole.specs.Choice.{pick}
 use Rattle.sheet.specs.Got.{Got, got, refused}
 use Rattle.sheet.specs.Number.{lastGroup, groupsFrom, readNumber, groupsOf, writeNumber}
+use Rattle.sheet.specs.Lent.{Bytes}
+use Rattle.sheet.proofs.Holds.{Holds}
 use Rattle.sheet.proofs.Groups.{lt-or-le}
 use Rattle.sheet.proofs.Written.{groups-last}
 
@@ -48,7 +50,7 @@ from-more : (k : ℕ) (bs : List ℕ) (start end i w v b : ℕ) → 128 ≤ b
 unfolding groupsFrom
 from-more k bs start end i w v b h = simp (le-ltb b 128 h)
 
-of-more : (k m : ℕ) → 128 ≤ m → groupsOf (suc k) m ≡ (128 + m % 128) ∷ groupsOf k (m / 128)
+pub of-more : (k m : ℕ) → 128 ≤ m → groupsOf (suc k) m ≡ (128 + m % 128) ∷ groupsOf k (m / 128)
 unfolding groupsOf
 of-more k m h = simp (le-ltb m 128 h)
 
@@ -78,15 +80,14 @@ read-groups (suc k) m rest start end i w v small fits z =
     (λ h. read-large k m rest start end i w v small fits h (λ q f n. read-groups k (m / 128) rest start end (i + 1) (w * 128) (v + m % 128 * w) q f n))
     (lt-or-le m 128)
 
--- reading what was written gives the number and the place after it, whatever stands before and after
-pub read-written : (before rest : List ℕ) (n : ℕ) → n < 2 ^ 64 → readNumber (before ++ (writeNumber n ++ rest)) (length before) ≡ got n (length before + length (writeNumber n))
+-- a number's bytes are read as the number, whatever stands before and after
+pub read-written : (s : List ℕ) (at n next : ℕ) → n < 2 ^ 64 → Holds s at (writeNumber n) next → readNumber s at ≡ got n next
 unfolding readNumber writeNumber
-read-written before rest n h =
+read-written s at n next h q =
     let e : 0 + n * 1 ≡ n = omega arith in
     let f : 0 + n * 1 < 2 ^ 64 = omega arith in
-    let s : n < 128 ^ 10 = omega arith in
-    let d : drop (length before) (before ++ (groupsOf 9 n ++ rest)) ≡ groupsOf 9 n ++ rest = drop-append-seam before (groupsOf 9 n ++ rest) in
-    rw d (rw e at (read-groups 9 n rest (length before) (length (before ++ (groupsOf 9 n ++ rest))) (length before) 1 0 s f (λ _. refl)))
+    let g : n < 128 ^ 10 = omega arith in
+    rw (q .bytes, q .place) (rw e at (read-groups 9 n (drop (at + length (groupsOf 9 n)) s) at (length s) at 1 0 g f (λ _. refl)))
 
 -- a last group that was read
 record Last (i w v b n next : ℕ) : Type 0 where
@@ -106,10 +107,6 @@ last-cases start i w v b n next false t₂ t₃ e₁ e₂ e₃ q = let z : _≡_
 
 last-read : (start i w v b n next : ℕ) → lastGroup start i w v b ≡ got n next → Last i w v b n next
 last-read start i w v b n next q = last-cases start i w v b n next (ltb (v + b * w) (2 ^ 64)) (eqb b 0) (eqb w 1) refl refl refl q
-
--- every number of a list is a byte
-pub Bytes : List ℕ → Type 0
-Bytes bs = (j : ℕ) → getD bs j 0 < 256
 
 -- groups that were read are m's groups, for some m, and a rest
 record Groups (k : ℕ) (bs : List ℕ) (i w v n next : ℕ) : Type 0 where
@@ -145,7 +142,7 @@ groups-large k bs i w v b n next x h g d r big =
 
 -- groups that were read are groups that are written
 written-groups : (k : ℕ) (bs : List ℕ) (start end i w v n next : ℕ) → Bytes bs → groupsFrom (suc k) bs start end i w v ≡ got n next → Groups k bs i w v n next
-unfolding groupsFrom Bytes
+unfolding groupsFrom
 written-groups k [] start end i w v n next h q = let z : _≡_ {A = ℕ} 0 1 = cc in absurd (omega arith)
 written-groups zero (b ∷ bs) start end i w v n next h q =
     ⊎-elim (λ small. groups-small zero bs i w v b n next small (last-read start i w v b n next (sym (from-last zero bs start end i w v b small) ∙ q)))
@@ -160,11 +157,10 @@ written-groups (suc k) (b ∷ bs) start end i w v n next h q =
     groups-large k bs i w v b n next (g .m * 128 + (b - 128)) large g (omega arith) (omega arith) (omega arith))
     (lt-or-le b 128)
 
--- what is read is written back as the same bytes
+-- a number that was read stands there as it is written
 pub record Read (s : List ℕ) (at n next : ℕ) : Type 0 where
   pub fits : n < 2 ^ 64
-  pub place : next ≡ at + length (writeNumber n)
-  pub bytes : drop at s ≡ writeNumber n ++ drop next s
+  pub holds : Holds s at (writeNumber n) next
 
 read-of : (s : List ℕ) (at n next : ℕ) → Groups 9 (drop at s) at 1 0 n next → Read s at n next
 unfolding writeNumber
@@ -174,8 +170,8 @@ read-of s at n next g =
     let p : next ≡ at + length (groupsOf 9 n) = rw e at (g .place) in
     let b : drop at s ≡ groupsOf 9 n ++ g .rest = rw e at (g .split) in
     let r : drop (at + length (groupsOf 9 n)) s ≡ g .rest = rw (← drop-drop (length (groupsOf 9 n)) at s, b) (drop-append-seam (groupsOf 9 n) (g .rest)) in
-    record { fits = f; place = p; bytes = rw (p, r) b }
+    record { fits = f; holds = record { place = p; bytes = rw (p, r) b } }
 
 pub written-read : (s : List ℕ) (at n next : ℕ) → Bytes s → readNumber s at ≡ got n next → Read s at n next
-unfolding readNumber Bytes
+unfolding readNumber
 written-read s at n next h q = read-of s at n next (written-groups 9 (drop at s) at (length s) at 1 0 n next (λ j. rw getD-drop (h (at + j))) q)

@@ -7,3 +7,10 @@ pub mod Sizes
 pub mod Tested
 pub mod Listed
 pub mod Plans
+pub mod Holds
+pub mod Fielded
+pub mod Stepped
+pub mod Sheeted
+pub mod Answered
+pub mod Sound
+pub mod Claims

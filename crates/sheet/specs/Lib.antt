@@ -7,3 +7,5 @@ pub mod Step
 pub mod Sheet
 pub mod Found
 pub mod Answer
+pub mod Lent
+pub mod Valid
