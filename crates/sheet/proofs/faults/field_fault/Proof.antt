@@ -1,8 +1,10 @@
+use mir.Val.{SFits}
+use mir.Syntax.{w64}
 use mathlib.Core.Path.{_≡_, refl}
 use mathlib.Core.Bool.{true, false}
 use native.Mathlib.Omega.{arith}
 use lib.IntN.{pos}
-use Rattle.sheet.proofs.Tested.{below, below-literal, below-count}
+use Rattle.whole.proofs.Flags.{flags}
 use borrow.Author.Needs.{needs}
 use Rattle.sheet.proofs.faults.field_fault.Statement.{statement}
 use Rattle.sheet.proofs.faults.field_fault.Tie as tie
@@ -31,29 +33,23 @@ returns-2 : tie.Need-returns-2
 returns-2 c = search needs
 
 returns-3 : tie.Need-returns-3
-returns-3 c =
-    let a = c .before .before .before in
-    rw (c .before .enum-told3 .given .1, below (a .args .x) (a .fits .x) true (a .args .low) (a .fits .low) (c .if1 .taken))
+returns-3 c = rw (c .before .enum-told3 .given .1) (search flags)
 
 returns-4 : tie.Need-returns-4
-returns-4 c =
-    let a = c .before .before .before in
-    rw (c .before .enum-told3 .given .1, below (a .args .x) (a .fits .x) false (a .args .low) (a .fits .low) (c .if1 .left))
+returns-4 c = rw (c .before .enum-told3 .given .1) (search flags)
 
 returns-5 : tie.Need-returns-5
-returns-5 c =
-    let a = c .before .before .before in
-    rw (c .before .enum-told4 .given .1, below-literal (a .args .x) (a .fits .x) true (pos 0) (c .if2 .taken))
+returns-5 c = rw (c .before .enum-told4 .given .1) (search flags)
 
 returns-6 : tie.Need-returns-6
 returns-6 c =
-    let a = c .before .before .before .before in
-    rw (c .before .before .enum-told4 .given .1, below-literal (a .args .x) (a .fits .x) false (pos 0) (c .before .if2 .left), below-count (a .args .x) (a .fits .x) true (a .args .k) (omega arith) (c .if3 .taken))
+    let k : SFits w64 (pos (c .before .before .before .before .args .k)) = record { sfits = omega arith } in
+    rw (c .before .before .enum-told4 .given .1) (search flags depth 8)
 
 returns-7 : tie.Need-returns-7
 returns-7 c =
-    let a = c .before .before .before .before in
-    rw (c .before .before .enum-told4 .given .1, below-literal (a .args .x) (a .fits .x) false (pos 0) (c .before .if2 .left), below-count (a .args .x) (a .fits .x) false (a .args .k) (omega arith) (c .if3 .left))
+    let k : SFits w64 (pos (c .before .before .before .before .args .k)) = record { sfits = omega arith } in
+    rw (c .before .before .enum-told4 .given .1) (search flags depth 8)
 
 pub field-fault-spec : {M : Type 1} → statement M
 field-fault-spec =

@@ -1,4 +1,4 @@
-use Rattle.sheet.proofs.Tested.{below-literal}
+use Rattle.whole.proofs.Flags.{flags}
 use Rattle.sheet.specs.Step.{stepFault}
 use mir.ValLaws.{toZ-ofZ}
 use mir.Val.{ofZ, toZ}
@@ -13,7 +13,6 @@ use Rattle.sheet.proofs.faults.step_fault.Reads as reads
 use Rattle.sheet.proofs.faults.step_fault.Lts as lts
 use Rattle.sheet.proofs.faults.fields_fault.Reads as fields-fault-reads
 use Rattle.sheet.proofs.operator.fields_of.Reads as fields-of-reads
-use Rattle.sheet.proofs.signed.natural.Reads as natural-reads
 
 natural-requires : tie.Need-natural-requires
 natural-requires c κs = search needs
@@ -26,9 +25,7 @@ fields-fault-requires c κs = search needs
 
 returns : tie.Need-returns
 unfolding stepFault
-returns c =
-    let s = c .before in
-    rw (below-literal (s .args .op) (s .fits .op) true (pos 0) (c .if1 .taken))
+returns c = search flags
 
 returns-2 : tie.Need-returns-2
 unfolding stepFault
@@ -39,14 +36,12 @@ returns-2 c =
     let ey : toZ w64 (ofZ w64 (s .args .y)) ≡ s .args .y = toZ-ofZ w64 (s .args .y) (s .fits .y) in
     let ez : toZ w64 (ofZ w64 (s .args .z)) ≡ s .args .z = toZ-ofZ w64 (s .args .z) (s .fits .z) in
     let n = rw eo at (c .before .before .natural .ensures) in
-    rw (below-literal (s .args .op) (s .fits .op) false (pos 0) (c .before .before .before .before .if1 .left), below-literal (s .args .op) (s .fits .op) true (pos 17) (c .before .before .before .if2 .taken))
-    (rw (c .before .fields-of .ensures, n, ex, ey, ez) at (c .fields-fault .ensures))
+    let h = rw (c .before .fields-of .ensures, n, ex, ey, ez) at (c .fields-fault .ensures) in
+    search (h, flags)
 
 returns-3 : tie.Need-returns-3
 unfolding stepFault
-returns-3 c =
-    let s = c .before .before in
-    rw (below-literal (s .args .op) (s .fits .op) false (pos 0) (c .before .if1 .left), below-literal (s .args .op) (s .fits .op) false (pos 17) (c .if2 .left))
+returns-3 c = search flags
 
 pub step-fault-spec : {M : Type 1} → statement M
 step-fault-spec =

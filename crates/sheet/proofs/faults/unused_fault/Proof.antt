@@ -1,5 +1,5 @@
 use mathlib.Core.Path.{_≡_, refl}
-use Rattle.sheet.proofs.Tested.{is-zero, not-zero}
+use Rattle.whole.proofs.Flags.{flags}
 use borrow.Author.Needs.{needs}
 use Rattle.sheet.proofs.faults.unused_fault.Statement.{statement}
 use Rattle.sheet.proofs.faults.unused_fault.Tie as tie
@@ -19,12 +19,10 @@ enum-told-4 : tie.Need-enum-told-4
 enum-told-4 c = search needs
 
 returns : tie.Need-returns
-returns c =
-    let a = c .before .before .before in
-    rw (c .before .enum-told .given .1, is-zero (a .args .x) (a .fits .x) (c .if1 .taken))
+returns c = rw (c .before .enum-told .given .1) (search flags)
 
 returns-2 : tie.Need-returns-2
-returns-2 c = rw (c .before .enum-told .given .1, not-zero (c .before .before .before .args .x) (c .if1 .left))
+returns-2 c = rw (c .before .enum-told .given .1) (search flags)
 
 returns-3 : tie.Need-returns-3
 returns-3 c = search needs

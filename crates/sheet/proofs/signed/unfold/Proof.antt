@@ -8,7 +8,7 @@ use mir.ValLaws.{toZ-pos}
 use mir.Val.{ofZ, toZ}
 use lib.IntN.{ℤ, pos, negsuc}
 use borrow.Author.Tests.{eq-eqb, ne-eqb}
-use Rattle.sheet.proofs.Signs.{Negative, Natural, negative, natural, flipped, flipped-half}
+use Rattle.whole.proofs.Bits.{flipped-half}
 use borrow.Author.Needs.{needs}
 use Rattle.sheet.proofs.signed.unfold.Statement.{statement}
 use Rattle.sheet.proofs.signed.unfold.Tie as tie

@@ -12,7 +12,6 @@ use Rattle.sheet.proofs.writing.field_width.Tie as tie
 use Rattle.sheet.proofs.writing.field_width.Reads as reads
 use Rattle.sheet.proofs.writing.field_width.Lts as lts
 use Rattle.sheet.proofs.signed.fold.Reads as fold-reads
-use Rattle.sheet.proofs.signed.natural.Reads as natural-reads
 use Rattle.sheet.proofs.writing.width.Reads as width-reads
 
 enum-told : tie.Need-enum-told

@@ -15,7 +15,6 @@ use Rattle.sheet.proofs.writing.fill_field.Tie as tie
 use Rattle.sheet.proofs.writing.fill_field.Reads as reads
 use Rattle.sheet.proofs.writing.fill_field.Lts as lts
 use Rattle.sheet.proofs.signed.fold.Reads as fold-reads
-use Rattle.sheet.proofs.signed.natural.Reads as natural-reads
 use Rattle.sheet.proofs.writing.fill_number.Reads as fill-number-reads
 
 enum-told : tie.Need-enum-told

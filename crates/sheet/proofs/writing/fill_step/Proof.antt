@@ -23,7 +23,6 @@ use Rattle.sheet.proofs.operator.fields_of.Reads as fields-of-reads
 use Rattle.sheet.proofs.operator.first.Reads as first-reads
 use Rattle.sheet.proofs.operator.second.Reads as second-reads
 use Rattle.sheet.proofs.operator.third.Reads as third-reads
-use Rattle.sheet.proofs.signed.natural.Reads as natural-reads
 use Rattle.sheet.proofs.writing.fill_field.Reads as fill-field-reads
 use Rattle.sheet.proofs.writing.fill_number.Reads as fill-number-reads
 

@@ -17,7 +17,6 @@ use Rattle.sheet.proofs.operator.fields_of.Reads as fields-of-reads
 use Rattle.sheet.proofs.operator.first.Reads as first-reads
 use Rattle.sheet.proofs.operator.second.Reads as second-reads
 use Rattle.sheet.proofs.operator.third.Reads as third-reads
-use Rattle.sheet.proofs.signed.natural.Reads as natural-reads
 use Rattle.sheet.proofs.writing.field_width.Reads as field-width-reads
 use Rattle.sheet.proofs.writing.width.Reads as width-reads
 
