@@ -1,13 +1,12 @@
 -- A step: its operator and three fields, out of bytes, into bytes, and what is wrong with it.
-use Prim.Native.Nat.{ℕ, _+_}
-use mathlib.Core.List.{List, [], _∷_, _++_}
-use mathlib.Core.Bool.{Bool}
+use Prim.Native.Nat.{ℕ}
+use mathlib.Core.List.{List, _++_}
 use lib.Dec.{ltb}
 use lib.IntN.{ℤ, pos}
 use Rattle.whole.specs.Choice.{pick}
 use Rattle.whole.specs.Test.{_<?_}
 use Rattle.whole.specs.Whole.{up}
-use Rattle.sheet.specs.Got.{Got, got, refused, andThen, Fault, none, fault, orElse}
+use Rattle.sheet.specs.Got.{Got, got, refused, andThen, Fault, fault, orElse}
 use Rattle.sheet.specs.Number.{readNumber, writeNumber}
 use Rattle.sheet.specs.Operator.{fieldsOf, first, second, third}
 use Rattle.sheet.specs.Field.{fieldAt, unusedFault, fieldFault, fieldBytes}

@@ -3,16 +3,10 @@ use Rattle.sheet.specs.Step.{stepFault}
 use mir.ValLaws.{toZ-ofZ}
 use mir.Val.{ofZ, toZ}
 use mir.Syntax.{w64}
-use lib.IntN.{pos}
-use mathlib.Core.Bool.{true, false}
-use mathlib.Core.Path.{_≡_, refl, sym, ap, _∙_}
+use mathlib.Core.Path.{_≡_}
 use borrow.Author.Needs.{needs}
 use Rattle.sheet.proofs.faults.step_fault.Statement.{statement}
 use Rattle.sheet.proofs.faults.step_fault.Tie as tie
-use Rattle.sheet.proofs.faults.step_fault.Reads as reads
-use Rattle.sheet.proofs.faults.step_fault.Lts as lts
-use Rattle.sheet.proofs.faults.fields_fault.Reads as fields-fault-reads
-use Rattle.sheet.proofs.operator.fields_of.Reads as fields-of-reads
 
 natural-requires : tie.Need-natural-requires
 natural-requires c κs = search needs

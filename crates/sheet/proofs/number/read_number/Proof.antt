@@ -1,7 +1,6 @@
-use Prim.Native.Nat.{ℕ, _≤_, _<_, _-_, _+_, _*_, _^_, _/_, _%_}
-use mathlib.Core.Path.{_≡_, refl, sym, ap, _∙_}
+use Prim.Native.Nat.{_≤_, _<_, _-_, _^_, _/_, _%_}
+use mathlib.Core.Path.{_≡_, refl, sym, _∙_}
 use lib.ListN.{getD}
-use lib.Bits.{bitAnd, bitOr}
 use Rattle.sheet.proofs.Groups.{too-many, ended, group-bits, code-too-large, code-goes-on, code-last, code-one-too-many}
 use native.Mathlib.Omega.{arith}
 use borrow.Author.Needs.{needs}
@@ -9,9 +8,6 @@ use lib.ListN.{length, drop}
 use Rattle.sheet.specs.Number.{readNumber, groupsFrom}
 use Rattle.sheet.proofs.number.read_number.Statement.{statement}
 use Rattle.sheet.proofs.number.read_number.Tie as tie
-use Rattle.sheet.proofs.number.read_number.Reads as reads
-use Rattle.sheet.proofs.number.read_number.Lts as lts
-use Rattle.sheet.proofs.number.wide.Reads as wide-reads
 
 abbrev Inv-loop : tie.InvT-loop
 Inv-loop s at i₀ shift₀ value₀ i shift value =
