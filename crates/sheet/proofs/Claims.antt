@@ -1,17 +1,20 @@
 -- Sheets: bytes and steps are each other's, refused bytes are no sheet, what was read is valid, and answers are determined.
 use Prim.Native.Nat.{ℕ, _*_, _/_, _%_, _≤_}
-use mathlib.Core.Path.{_≡_, sym, ap, _∙_}
-use mathlib.Core.List.{List}
+use mathlib.Core.Path.{_≡_, refl, sym, ap, _∙_}
+use mathlib.Core.List.{List, [], _∷_}
 use native.Mathlib.Omega.{arith}
-use lib.IntN.{ℤ}
+use lib.IntN.{ℤ, pos}
 use lib.ListN.{length, take}
 use lib.Seq.{sets}
 use Rattle.refusal.specs.Number.{numberOf}
 use Rattle.refusal.proofs.Claims.{number-tells}
+use Rattle.whole.specs.Test.{_<?_}
 use Rattle.sheet.specs.Got.{got}
-use Rattle.sheet.specs.Number.{readNumber}
-use Rattle.sheet.specs.Step.{Step}
-use Rattle.sheet.specs.Sheet.{parse, bytesOf, flat, stepsOf}
+use Rattle.sheet.specs.Number.{readNumber, groupsFrom}
+use Rattle.sheet.specs.Operator.{fieldsOf}
+use Rattle.sheet.specs.Field.{fieldAt}
+use Rattle.sheet.specs.Step.{Step, step, fieldsAt, stepAt}
+use Rattle.sheet.specs.Sheet.{stepsFrom, parse, bytesOf, flat, stepsOf}
 use Rattle.sheet.specs.Valid.{ValidSheet}
 use Rattle.sheet.specs.Lent.{Bytes, Words}
 use Rattle.sheet.specs.Found.{numberFound}
@@ -107,6 +110,14 @@ pub read-valid : (s : List ℕ) → Bytes s → (xs : List Step) (end : ℕ) →
 read-valid s h xs end e =
     let q = sheet-read s h xs end e in
     record { few = q .few; steps = valid-from 0 xs (q .right) }
+
+-- The sheet of number (14), read.
+pub fourteen : List ℕ
+fourteen = 0x03 ∷ 0x01 ∷ 0x02 ∷ 0x08 ∷ 0x00 ∷ 0xF4 ∷ 0x03 ∷ 0x04 ∷ 0x00 ∷ 0x01 ∷ []
+
+pub fourteen-read : parse fourteen ≡ got (step (pos 1) (pos 1) (pos 4) (pos 0) ∷ step (pos 0) (pos 250) (pos 0) (pos 0) ∷ step (pos 4) (pos 0) (pos 1) (pos 0) ∷ []) 10
+unfolding fourteen parse stepsFrom stepAt fieldsAt fieldsOf fieldAt readNumber groupsFrom _<?_
+fourteen-read = refl
 
 -- ---- answers are determined
 
