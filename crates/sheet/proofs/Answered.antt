@@ -1,21 +1,20 @@
 -- What an answer of reading or writing says of the sheet.
-use Prim.Native.Nat.{ℕ, zero, suc, _+_, _*_, _/_, _%_, _≤_, _<_}
-use mathlib.Core.Path.{_≡_, refl, sym, ap, subst, _∙_}
-use mathlib.Core.List.{List, [], _∷_, _++_}
+use Prim.Native.Nat.{ℕ, suc, _+_, _/_, _%_, _≤_}
+use mathlib.Core.Path.{_≡_, refl, ap}
+use mathlib.Core.List.{List, [], _∷_}
 use mathlib.Core.Bool.{Bool, true, false}
 use native.Mathlib.Omega.{arith}
 use lib.Dec.{ltb, leb, eqb}
-use lib.IntN.{ℤ, pos}
-use lib.ListN.{length, take, drop, getD}
+use lib.IntN.{ℤ}
+use lib.ListN.{length, take, drop}
 use lib.Seq.{sets, sets-eq, take-append-seam}
-use borrow.Author.Tests.{leb-true, ltb-false, eqb-true, le-leb, lt-ltb, le-ltb, eq-eqb}
+use borrow.Author.Tests.{leb-true, ltb-false, eqb-true, le-leb, le-ltb, eq-eqb}
 use Rattle.whole.specs.Choice.{pick}
 use Rattle.sheet.specs.Got.{Got, got, refused, Verdict, fine, wrong}
-use Rattle.sheet.specs.Step.{Step, step}
+use Rattle.sheet.specs.Step.{Step}
 use Rattle.sheet.specs.Sheet.{parse, stepsFault, bytesOf, flat, stepsOf}
-use Rattle.sheet.specs.Answer.{Told, done, refusedAt, refusedBy, Plan, fill, stop, answer, content, planOf, reading, planFor, writing}
-use Rattle.sheet.specs.Lent.{Bytes, Words}
-use Rattle.sheet.proofs.Parts.{length-flat}
+use Rattle.sheet.specs.Answer.{done, refusedAt, refusedBy, stop, answer, content, planOf, reading, planFor, writing}
+use Rattle.sheet.specs.Lent.{Words}
 use Rattle.sheet.proofs.Plans.{steps-count}
 use Rattle.sheet.proofs.Sheeted.{Fitted, none-left, fitted}
 

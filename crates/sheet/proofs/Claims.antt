@@ -1,6 +1,6 @@
 -- Sheets: bytes and steps are each other's, refused bytes are no sheet, what was read is valid, and answers are determined.
-use Prim.Native.Nat.{ℕ, _+_, _*_, _/_, _%_, _≤_}
-use mathlib.Core.Path.{_≡_, refl, sym, ap, subst, _∙_}
+use Prim.Native.Nat.{ℕ, _*_, _/_, _%_, _≤_}
+use mathlib.Core.Path.{_≡_, refl, sym, ap, _∙_}
 use mathlib.Core.List.{List, [], _∷_}
 use native.Mathlib.Omega.{arith}
 use lib.IntN.{ℤ, pos}
@@ -8,7 +8,8 @@ use lib.ListN.{length, take}
 use lib.Seq.{sets}
 use Rattle.refusal.specs.Number.{numberOf}
 use Rattle.refusal.proofs.Claims.{number-tells}
-use Rattle.sheet.specs.Got.{Got, got, refused}
+use Rattle.whole.specs.Test.{_<?_}
+use Rattle.sheet.specs.Got.{got}
 use Rattle.sheet.specs.Number.{readNumber, groupsFrom}
 use Rattle.sheet.specs.Operator.{fieldsOf}
 use Rattle.sheet.specs.Field.{fieldAt}
@@ -17,7 +18,7 @@ use Rattle.sheet.specs.Sheet.{stepsFrom, parse, bytesOf, flat, stepsOf}
 use Rattle.sheet.specs.Valid.{ValidSheet}
 use Rattle.sheet.specs.Lent.{Bytes, Words}
 use Rattle.sheet.specs.Found.{numberFound}
-use Rattle.sheet.specs.Answer.{Told, done, refusedAt, refusedBy, Plan, answer, content, reading, writing, readTold, writeTold}
+use Rattle.sheet.specs.Answer.{done, refusedAt, answer, content, reading, writing, readTold, writeTold}
 use Rattle.sheet.specs.declared.number.NumberRead.{NumberRead}
 use Rattle.sheet.specs.declared.number.NumberRead.the-variants.{Value, Refused as NoNumber}
 use Rattle.sheet.specs.declared.ReadAnswer.{ReadAnswer}
@@ -26,7 +27,7 @@ use Rattle.sheet.specs.declared.WriteAnswer.{WriteAnswer}
 use Rattle.sheet.specs.declared.WriteAnswer.the-variants.{Bytes as Written, RefusedAt as UnwrittenAt, Refused as Unwritten}
 use Rattle.sheet.proofs.Parts.{length-flat}
 use Rattle.sheet.proofs.Plans.{steps-count}
-use Rattle.sheet.proofs.Sheeted.{RightFrom, right-steps, steps-right, SheetRead, sheet-read, sheet-written}
+use Rattle.sheet.proofs.Sheeted.{RightFrom, right-steps, steps-right, sheet-read, sheet-written}
 use Rattle.sheet.proofs.Answered.{steps-flat, flat-steps, words-fitted, stored-first, Reads, reads, reads-back, refuses, Writes, writes, writes-back}
 use Rattle.sheet.proofs.Sound.{valid-from, sheet-most}
 
@@ -109,6 +110,14 @@ pub read-valid : (s : List ℕ) → Bytes s → (xs : List Step) (end : ℕ) →
 read-valid s h xs end e =
     let q = sheet-read s h xs end e in
     record { few = q .few; steps = valid-from 0 xs (q .right) }
+
+-- The sheet of number (14), read.
+pub fourteen : List ℕ
+fourteen = 0x03 ∷ 0x01 ∷ 0x02 ∷ 0x08 ∷ 0x00 ∷ 0xF4 ∷ 0x03 ∷ 0x04 ∷ 0x00 ∷ 0x01 ∷ []
+
+pub fourteen-read : parse fourteen ≡ got (step (pos 1) (pos 1) (pos 4) (pos 0) ∷ step (pos 0) (pos 250) (pos 0) (pos 0) ∷ step (pos 4) (pos 0) (pos 1) (pos 0) ∷ []) 10
+unfolding fourteen parse stepsFrom stepAt fieldsAt fieldsOf fieldAt readNumber groupsFrom _<?_
+fourteen-read = refl
 
 -- ---- answers are determined
 

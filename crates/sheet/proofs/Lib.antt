@@ -4,7 +4,6 @@ pub mod Inverse
 pub mod Signs
 pub mod Parts
 pub mod Sizes
-pub mod Tested
 pub mod Listed
 pub mod Plans
 pub mod Holds

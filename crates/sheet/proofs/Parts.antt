@@ -1,6 +1,6 @@
 -- A field, a step and the steps of a sheet, by what was read of them.
 use Prim.Native.Nat.{ℕ, zero, suc, _+_, _-_, _*_, _≤_, _<_}
-use mathlib.Core.Path.{_≡_, refl, sym, ap, _∙_}
+use mathlib.Core.Path.{_≡_, refl, _∙_}
 use mathlib.Core.List.{List, [], _∷_}
 use mathlib.Core.Bool.{Bool, true, false}
 use native.Mathlib.Omega.{arith}
@@ -11,17 +11,15 @@ use lib.Seq.{sets}
 use borrow.Author.Tests.{lt-ltb, le-ltb, le-leb, lt-leb}
 use Rattle.whole.specs.Choice.{pick}
 use Rattle.whole.specs.Test.{_<?_}
-use Rattle.sheet.specs.declared.operator.Kind.{Kind}
-use Rattle.sheet.specs.declared.operator.Kind.the-variants.{Unused, Signed, High, Earlier}
-use Rattle.sheet.specs.declared.operator.Fields.{Fields}
-use Rattle.sheet.specs.Got.{Got, got, refused, andThen, Fault, none, fault, Verdict, fine, wrong, verdictOf}
+use Rattle.sheet.specs.declared.operator.Kind.the-variants.{Signed, High, Earlier}
+use Rattle.sheet.specs.Got.{Got, got, refused, andThen, none, fault, fine, wrong, verdictOf}
 use Rattle.sheet.specs.Number.{readNumber}
 use Rattle.sheet.specs.Signed.{unfoldNumber}
-use Rattle.sheet.specs.Operator.{fieldsOf, first, second, third}
+use Rattle.sheet.specs.Operator.{fieldsOf}
 use Rattle.sheet.specs.Field.{fieldAt, judged}
-use Rattle.sheet.specs.Step.{Step, step, fieldsAt, stepAt}
+use Rattle.sheet.specs.Step.{Step, fieldsAt, stepAt}
 use Rattle.sheet.specs.Sheet.{stepsFrom, stepsIn, parse, flat}
-use Rattle.sheet.specs.Answer.{Told, done, refusedAt, refusedBy, Plan, answer, content, planOf, reading}
+use Rattle.sheet.specs.Answer.{done, refusedAt, refusedBy, answer, content, planOf, reading}
 
 module _ (s : List ℕ) (at : ℕ) where
   pub signed-got : (n p : ℕ) → readNumber s at ≡ got n p → fieldAt Signed s at 0 (pos 0) ≡ got (unfoldNumber n) p

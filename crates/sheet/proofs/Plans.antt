@@ -1,20 +1,16 @@
 -- What writing answers and stores, by what was found of its list.
-use Prim.Native.Nat.{ℕ, zero, suc, _+_, _*_, _/_, _%_, _≤_, _<_}
-use mathlib.Core.Path.{_≡_, refl, sym, ap, _∙_}
-use mathlib.Core.List.{List, [], _∷_, _++_}
-use mathlib.Core.Bool.{Bool, true, false}
+use Prim.Native.Nat.{ℕ, _+_, _/_, _%_, _≤_, _<_}
+use mathlib.Core.Path.{_≡_, refl}
+use mathlib.Core.List.{List, [], _∷_}
 use native.Mathlib.Omega.{arith}
-use lib.Dec.{ltb, leb, eqb}
-use lib.IntN.{ℤ, pos}
+use lib.IntN.{ℤ}
 use lib.ListN.{length, length-append}
 use lib.Seq.{sets}
 use borrow.Author.Tests.{lt-ltb, le-ltb, le-leb, lt-leb, eq-eqb, ne-eqb}
-use Rattle.whole.specs.Choice.{pick}
-use Rattle.sheet.specs.Got.{Verdict, fine, wrong}
+use Rattle.sheet.specs.Got.{fine, wrong}
 use Rattle.sheet.specs.Number.{writeNumber}
-use Rattle.sheet.specs.Step.{Step, step}
 use Rattle.sheet.specs.Sheet.{stepsOf, stepsFault, stepsBytes, bytesOf}
-use Rattle.sheet.specs.Answer.{Told, done, refusedAt, refusedBy, Plan, fill, stop, answer, content, planFor, writing}
+use Rattle.sheet.specs.Answer.{done, refusedAt, refusedBy, fill, answer, content, planFor, writing}
 use Rattle.sheet.proofs.Listed.{Filled, filled-then}
 
 -- a step for each four numbers

@@ -1,30 +1,28 @@
 -- Right steps are valid, and how long their sheet is at most.
-use Prim.Native.Nat.{ℕ, zero, suc, _+_, _*_, _%_, _/_, _≤_, _<_}
-use mathlib.Core.Path.{_≡_, refl, sym, ap, _∙_}
-use mathlib.Core.List.{List, [], _∷_, _++_}
+use Prim.Native.Nat.{ℕ, _+_, _*_, _/_, _≤_, _<_}
+use mathlib.Core.Path.{_≡_, refl, ap}
+use mathlib.Core.List.{List, [], _∷_}
 use mathlib.Core.Bool.{Bool, true, false}
 use mathlib.Core.Logic.{⊎-elim}
 use native.Mathlib.Omega.{arith}
 use lib.IntN.{ℤ, pos}
 use lib.ListN.{length, length-append}
 use lib.Signed.{_≤ℤ_, ltZ, ltZ-no}
-use lib.Dec.{T}
 use Rattle.whole.specs.Choice.{pick}
 use Rattle.whole.specs.Test.{_<?_}
-use Rattle.whole.specs.Whole.{up}
 use Rattle.sheet.specs.declared.operator.Kind.{Kind}
 use Rattle.sheet.specs.declared.operator.Kind.the-variants.{Unused, Signed, High, Earlier}
 use Rattle.sheet.specs.declared.operator.Fields.{Fields}
 use Rattle.sheet.specs.declared.operator.Fields.the-variants.{Constant, Input, One, Two, Three}
-use Rattle.sheet.specs.Got.{Fault, none, fault}
-use Rattle.sheet.specs.Number.{groupsOf, writeNumber}
+use Rattle.sheet.specs.Got.{none, fault}
+use Rattle.sheet.specs.Number.{writeNumber}
 use Rattle.sheet.specs.Signed.{foldSigned}
 use Rattle.sheet.specs.Operator.{fieldsOf, first, second, third}
 use Rattle.sheet.specs.Field.{fieldFault, fieldBytes}
-use Rattle.sheet.specs.Step.{Step, step, stepBytes}
+use Rattle.sheet.specs.Step.{Step, stepBytes}
 use Rattle.sheet.specs.Sheet.{stepsBytes, bytesOf}
 use Rattle.sheet.specs.Valid as valid
-use Rattle.sheet.specs.Valid.{Fit, constant, input, one, two, three, Valid, ValidFrom, ValidSheet}
+use Rattle.sheet.specs.Valid.{Fit, constant, input, one, two, three, ValidFrom}
 use Rattle.sheet.proofs.Groups.{lt-or-le}
 use Rattle.sheet.proofs.Written.{groups-last}
 use Rattle.sheet.proofs.Inverse.{of-more}

@@ -9,7 +9,7 @@ use mir.Syntax.{w64}
 use mir.Val.{SFits}
 use Rattle.sheet.specs.declared.operator.Fields.{Fields}
 use Rattle.sheet.specs.declared.operator.Fields.the-variants.{Constant, Input, One, Two, Three}
-use Rattle.sheet.specs.Operator.{fieldsOf}
+use Rattle.sheet.specs.Operator.{rows, fieldsOf}
 use Rattle.sheet.specs.Step.{Step}
 
 -- the fields of step k
@@ -23,7 +23,7 @@ pub data Fit (k : ℕ) : Fields → (x y z : ℤ) → Type 0 where
 pub record Valid (k : ℕ) (s : Step) : Type 0 where
   pub number : ℕ
   pub is : s .operator ≡ pos number
-  pub known : number < 17
+  pub known : number < length rows
   pub fit : Fit k (fieldsOf number) (s .a) (s .b) (s .c)
 
 -- steps from step k on

@@ -1,13 +1,14 @@
 // What is wrong with steps that are to be written.
 use crate::operator::Fields;
 use crate::operator::Kind;
+use crate::operator::OPERATORS;
 use crate::operator::fields_of;
 use crate::operator::first;
 use crate::operator::second;
 use crate::operator::third;
 use crate::reading::Checked;
-use crate::signed::natural;
 use refusal::Refusal;
+use whole::natural;
 ghost use mathlib.Core.Path.{_≡_};
 ghost use Prim.Native.Nat.{_*_, _≤_};
 ghost use lib.ListN.{length};
@@ -107,8 +108,9 @@ fn step_fault(k: usize, op: i64, x: i64, y: i64, z: i64) -> Fault
     if op < 0 {
         Fault::Is(Refusal::UnknownOperator)
     } else {
-        if op < 17 {
-            fields_fault(fields_of(natural(op)), k, x, y, z)
+        let o = natural(op);
+        if o < OPERATORS {
+            fields_fault(fields_of(o), k, x, y, z)
         } else {
             Fault::Is(Refusal::UnknownOperator)
         }

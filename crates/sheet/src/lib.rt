@@ -1,7 +1,7 @@
 // Sheets: bytes to steps and back.
 use faults::check_listed;
 use number::NumberRead;
-use number::read_number;
+use reader::first_number;
 use reading::Checked;
 use reading::check_steps;
 use reading::fill_steps;
@@ -16,6 +16,7 @@ ghost use Rattle.sheet.specs.Answer.{readTold, reading, writeTold, writi
 pub mod number; // number.rt: groups of seven bits
 mod signed; // signed.rt: signed numbers folded to unsigned ones
 mod operator; // operator.rt: the operators' table of fields
+pub mod reader; // reader.rt: the lent bytes and a place, kept together
 mod reading; // reading.rt: fields, steps and whole sheets out of bytes
 mod faults; // faults.rt: what is wrong with steps that are to be written
 mod writing; // writing.rt: steps into bytes
@@ -34,7 +35,7 @@ pub enum ReadAnswer {
 pub fn read(bytes: &[u8], out: &mut [i64]) -> ReadAnswer
     ensures { λ r. ⌜ (readTold r ≡ answer (reading (now (bytes .entry))) (now (out .entry))) × (now (out .exit) ≡ content (reading (now (bytes .entry))) (now (out .entry))) ⌝ }
 {
-    match read_number(bytes, 0) {
+    match first_number(bytes) {
         NumberRead::Value(n, p) => {
             if 256 < n {
                 return ReadAnswer::RefusedAt(Refusal::TooManySteps, 0);

@@ -23,6 +23,9 @@ pub enum Fields {
     Three,
 }
 
+// How many operators there are.
+pub const OPERATORS: u64 = 17;
+
 // The row of each operator.
 const ROWS: [Fields; 17] = [
     Fields::Constant, // 0 constant
@@ -48,7 +51,7 @@ const ROWS: [Fields; 17] = [
 pub fn fields_of(op: u64) -> Fields
     ensures { λ r. ⌜ r ≡ fieldsOf op ⌝ }
 {
-    if op < 17 {
+    if op < OPERATORS {
         let i = op as usize;
         ROWS[i]
     } else {

@@ -3,6 +3,7 @@ use crate::number::NumberRead;
 use crate::number::read_number;
 use crate::operator::Fields;
 use crate::operator::Kind;
+use crate::operator::OPERATORS;
 use crate::operator::fields_of;
 use crate::operator::first;
 use crate::operator::second;
@@ -116,7 +117,7 @@ pub fn read_step(s: &[u8], at: usize, k: usize) -> StepRead
 {
     match read_number(s, at) {
         NumberRead::Value(op, p) => {
-            if op < 17 {
+            if op < OPERATORS {
                 read_fields(s, p, op, fields_of(op), k)
             } else {
                 StepRead::Refused(Refusal::UnknownOperator, at)

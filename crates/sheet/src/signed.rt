@@ -1,6 +1,5 @@
 // Signed numbers as unsigned ones, folded by shift and mask.
 ghost use mathlib.Core.Path.{_≡_};
-ghost use Rattle.whole.specs.Whole.{up};
 ghost use Rattle.sheet.specs.Signed.{foldSigned, unfoldNumber};
 
 // A signed number as an unsigned one.
@@ -20,11 +19,4 @@ pub fn unfold(n: u64) -> i64
 {
     let half = (n >> 1) as i64;
     if n & 1 == 0 { half } else { !half }
-}
-
-// The number itself, or 0 if it is negative.
-pub fn natural(n: i64) -> u64
-    ensures { λ r. ⌜ r ≡ up n ⌝ }
-{
-    if n < 0 { 0 } else { n as u64 }
 }

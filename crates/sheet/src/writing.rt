@@ -5,7 +5,7 @@ use crate::operator::first;
 use crate::operator::second;
 use crate::operator::third;
 use crate::signed::fold;
-use crate::signed::natural;
+use whole::natural;
 ghost use mathlib.Core.Path.{_≡_};
 ghost use Prim.Native.Nat.{_+_, _*_, _≤_};
 ghost use lib.ListN.{length};

@@ -1,5 +1,5 @@
-use Prim.Native.Nat.{ℕ, _*_, _≤_, _<_}
-use mathlib.Core.Path.{_≡_, refl, sym, ap, _∙_}
+use Prim.Native.Nat.{ℕ}
+use mathlib.Core.Path.{_≡_, sym, ap, _∙_}
 use mathlib.Core.List.{List}
 use lib.IntN.{ℤ}
 use lib.ListN.{length}
@@ -27,7 +27,7 @@ abbrev P : tie.After-check-steps → ℕ
 P k = k .before .before .before .n .given .0 .1 .0
 
 counted : (k : tie.After-check-steps) → parse (S k) ≡ stepsFrom (N k) (S k) 0 (P k)
-counted k = parse-count (S k) (N k) (P k) (sym (k .before .before .before .before .before .read-number .ensures) ∙ ap numberFound (k .before .before .before .n .given .1)) (k .before .if1 .left)
+counted k = parse-count (S k) (N k) (P k) (sym (k .before .before .before .before .before .first-number .ensures) ∙ ap numberFound (k .before .before .before .n .given .1)) (k .before .if1 .left)
 
 -- where the steps are right
 right : (t : tie.After-enum-told) → verdictOf (stepsFrom (N (t .before .before)) (S (t .before .before)) 0 (P (t .before .before))) ≡ fine
@@ -39,8 +39,8 @@ right′ t = rw (counted (t .before .before)) (right t)
 long : (t : tie.After-enum-told) → length (stepsIn (parse (S (t .before .before)))) ≡ N (t .before .before)
 long t = rw (counted (t .before .before)) (steps-length (N (t .before .before)) (S (t .before .before)) 0 (P (t .before .before)) (right t))
 
-read-number-requires : tie.Need-read-number-requires
-read-number-requires c κs = search needs
+first-number-requires : tie.Need-first-number-requires
+first-number-requires c κs = search needs
 
 enum-known-n : tie.Need-enum-known-n
 enum-known-n c = search needs
@@ -49,7 +49,7 @@ returns : tie.Need-returns
 returns c =
     let a = c .before .before .before .before .before .before .args in
     let g = c .before .before .n .given in
-    read-refused (a .bytes .now) (a .out .now) 10 0 (parse-many (a .bytes .now) (g .0 .0) (g .0 .1 .0) (sym (c .before .before .before .before .read-number .ensures) ∙ ap numberFound (g .1)) (c .if1 .taken))
+    read-refused (a .bytes .now) (a .out .now) 10 0 (parse-many (a .bytes .now) (g .0 .0) (g .0 .1 .0) (sym (c .before .before .before .before .first-number .ensures) ∙ ap numberFound (g .1)) (c .if1 .taken))
 
 check-steps-requires : tie.Need-check-steps-requires
 check-steps-requires c κs = search needs
@@ -94,13 +94,13 @@ returns-4 c =
 returns-5 : tie.Need-returns-5
 returns-5 c =
     let a = c .before .before .before .before .before .args in
-    read-refused (a .bytes .now) (a .out .now) _ _ (parse-refused (a .bytes .now) _ _ (sym (c .before .before .before .read-number .ensures) ∙ ap numberFound (c .before .r2 .given .1)))
+    read-refused (a .bytes .now) (a .out .now) _ _ (parse-refused (a .bytes .now) _ _ (sym (c .before .before .before .first-number .ensures) ∙ ap numberFound (c .before .r2 .given .1)))
 
 pub read-spec : {M : Type 1} → statement M
 read-spec =
     tie.close
     (tie.spec
-    read-number-requires
+    first-number-requires
     enum-known-n
     returns
     check-steps-requires

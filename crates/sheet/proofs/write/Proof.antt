@@ -2,26 +2,17 @@ use Rattle.sheet.proofs.Plans.{steps-count}
 use Rattle.sheet.proofs.Plans.{write-uneven, write-many, write-wrong, write-size, write-short, write-long, write-stored}
 use Rattle.sheet.proofs.Sizes.{number-size, listed-bound}
 use Rattle.sheet.specs.Found.{checkFound}
-use Rattle.sheet.specs.Sheet.{stepsOf, stepsFault, stepsBytes, bytesOf}
-use Rattle.sheet.specs.Number.{writeNumber}
+use Rattle.sheet.specs.Sheet.{stepsOf, stepsFault, bytesOf}
 use Rattle.sheet.specs.Got.{fine}
-use lib.Seq.{sets, length-sets}
 use lib.ListN.{length}
 use lib.IntN.{ℤ}
 use native.Mathlib.Omega.{arith}
 use mathlib.Core.List.{List}
-use mathlib.Core.Path.{_≡_, refl, sym, ap, _∙_}
-use Prim.Native.Nat.{ℕ, _+_, _*_, _/_, _%_, _≤_, _<_}
+use mathlib.Core.Path.{_≡_, sym, ap, _∙_}
+use Prim.Native.Nat.{ℕ, _+_, _/_}
 use borrow.Author.Needs.{needs}
 use Rattle.sheet.proofs.write.Statement.{statement}
 use Rattle.sheet.proofs.write.Tie as tie
-use Rattle.sheet.proofs.write.Reads as reads
-use Rattle.sheet.proofs.write.Lts as lts
-use Rattle.sheet.proofs.faults.check_listed.Reads as check-listed-reads
-use Rattle.sheet.proofs.writing.fill_listed.Reads as fill-listed-reads
-use Rattle.sheet.proofs.writing.fill_number.Reads as fill-number-reads
-use Rattle.sheet.proofs.writing.listed_width.Reads as listed-width-reads
-use Rattle.sheet.proofs.writing.width.Reads as width-reads
 
 -- where the list is even, short enough and right
 abbrev start : tie.Else2 → tie.Start

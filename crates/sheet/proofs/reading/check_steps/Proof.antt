@@ -1,13 +1,10 @@
-use Prim.Native.Nat.{ℕ, _+_, _-_, _≤_, _<_}
-use mathlib.Core.Path.{_≡_, refl, sym, ap, _∙_}
+use Prim.Native.Nat.{_-_, _≤_, _<_}
+use mathlib.Core.Path.{_≡_, sym, ap, _∙_}
 use native.Mathlib.Omega.{arith}
 use borrow.Author.Needs.{needs}
 use borrow.Author.Tests.{lt-ltb, le-ltb}
-use lib.IntN.{ℤ}
 use lib.ListN.{length}
-use mir.Syntax.{w64}
-use mir.Val.{ofZ, toZ}
-use Rattle.sheet.specs.Got.{Got, got, refused, verdictOf}
+use Rattle.sheet.specs.Got.{got, verdictOf}
 use Rattle.sheet.specs.Step.{step, stepAt}
 use Rattle.sheet.specs.Sheet.{stepsFrom}
 use Rattle.sheet.specs.Found.{stepFound}

@@ -1,16 +1,15 @@
-use Prim.Native.Nat.{ℕ, suc, _+_, _-_, _*_, _≤_, _<_, _^_}
+use Prim.Native.Nat.{ℕ, _+_, _-_, _*_, _≤_, _<_}
 use mathlib.Core.Path.{_≡_, refl, sym, ap, _∙_}
 use mathlib.Core.List.{List, [], _∷_}
 use native.Mathlib.Omega.{arith}
 use borrow.Author.Needs.{needs}
 use lib.Dec.{ltb}
-use lib.IntN.{ℤ}
-use lib.ListN.{length, set, length-set}
+use lib.ListN.{length, length-set}
 use lib.Seq.{sets}
 use mir.Syntax.{w64}
 use mir.Val.{ofZ, toZ}
 use Rattle.refusal.specs.Number.{numberOf}
-use Rattle.sheet.specs.Got.{Got, got, refused, fine, wrong, verdictOf}
+use Rattle.sheet.specs.Got.{Got, got, fine, wrong, verdictOf}
 use Rattle.sheet.specs.Step.{Step, step, stepAt}
 use Rattle.sheet.specs.Sheet.{stepsFrom, stepsIn, flat}
 use Rattle.sheet.specs.Found.{stepFound}
