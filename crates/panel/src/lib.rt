@@ -52,7 +52,12 @@ fn outcome(act: Action, inputs: &[i64], j: usize, room: &[i64], k: usize) -> Out
 {
     match act {
         Action::Input(_, _) => Outcome::Gives(input_at(inputs, j)),
-        Action::Does(o, p, q, r) => step::run::run(o, given(room, k, p), given(room, k, q), given(room, k, r)),
+        Action::Does(o, p, q, r) => step::run::run(
+            o,
+            given(room, k, p),
+            given(room, k, q),
+            given(room, k, r),
+        ),
     }
 }
 
