@@ -1,1 +1,7 @@
 pub mod Set
+pub mod Index
+pub mod Sides
+pub mod Compared
+pub mod Answer
+pub mod Ported
+pub mod Mended
