@@ -1,2 +1,5 @@
 pub mod Cells
 pub mod Keys
+pub mod Laws
+pub mod Differences
+pub mod Claims

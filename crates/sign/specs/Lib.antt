@@ -1,5 +1,6 @@
 pub mod Set
 pub mod Index
+pub mod Numbers
 pub mod Sides
 pub mod Compared
 pub mod Answer
