@@ -1,13 +1,13 @@
 -- One test for a whole table: each of its 64 cells is what the rule says, which antt computes, and its law at every pair of signs.
 -- Assumes nothing.
-use mathlib.Core.Path.{_≡_, refl, sym, subst}
-use mathlib.Core.Bool.{Bool, true, false, _&&_}
+use mathlib.Core.Path.{_≡_, refl, sym, subst, _∙_}
+use mathlib.Core.Bool.{Bool, true, false, _&&_, not}
 use mathlib.Core.List.{List, [], _∷_}
-use mathlib.Core.Logic.{_⊎_, inl, inr}
+use mathlib.Core.Logic.{_≢_, _↔_, inl, inr}
 use Prim.Native.Nat.{ℕ, zero, suc, _<_}
 use native.Mathlib.Omega.{arith}
 use native.Mathlib.Nat.{eq-or-lt-of-le}
-use lib.Dec.{T, eqb, eqb→eq, lit<}
+use lib.Dec.{T, T-not, eqb, eqb→eq, eqb-refl, lit<}
 use lib.ListN.{getD}
 use Rattle.whole.specs.declared.Order.{Order}
 use Rattle.whole.specs.declared.Order.the-variants.{Less, Equal, Greater, None}
@@ -39,6 +39,9 @@ at-index NonPos = refl
 
 abbrev pub signs : Coded Sign
 signs = record { code = indexOf; back = signAt; again = at-index }
+
+pub differ : (s t : Sign) → T (not (eqb (indexOf s) (indexOf t))) → s ≢ t
+differ s t u e = T-not (eqb (indexOf s) (indexOf t)) u (subst (λ (x : Sign). T (eqb (indexOf s) (indexOf x))) e (eqb-refl (indexOf s)))
 
 abbrev pub placeOf : Order → ℕ
 placeOf Less = 0
@@ -107,6 +110,33 @@ pairs f t a b =
     let h : T (f (signAt (indexOf a)) (signAt (indexOf b))) = passes (λ j. f (signAt (indexOf a)) (signAt j)) 8 (indexOf b) (below b) (passes (λ i. upTo 8 (λ j. f (signAt i) (signAt j))) 8 (indexOf a) (below a) t) in
     rw (at-index a, at-index b) at h
 
+is-so : (b : Bool) → T b → b ≡ true
+is-so true t = refl
+is-so false t = absurd t
+
+so : (b : Bool) → b ≡ true → T b
+so b e = subst T (sym e) tt
+
+pub told-same : (s t : Sign) → (s ≡ t) ↔ (eqb (indexOf s) (indexOf t) ≡ true)
+told-same s t = (
+  λ e. is-so (eqb (indexOf s) (indexOf t)) (subst (λ (x : Sign). T (eqb (indexOf s) (indexOf x))) e (eqb-refl (indexOf s))),
+  λ h. alike signs s t (so (eqb (indexOf s) (indexOf t)) h),
+)
+
+-- two tests, or two rules, that answer alike at each pair
+pub tests : (f g : Sign → Sign → Bool) → T (eachPair (λ a b. eqb (bitOf (f a b)) (bitOf (g a b)))) → (a b : Sign) → f a b ≡ g a b
+tests f g t a b = alike truths (f a b) (g a b) (pairs (λ a b. eqb (bitOf (f a b)) (bitOf (g a b))) t a b)
+
+pub rules : {A : Type 0} (K : Coded A) (f g : Sign → Sign → A) → T (eachPair (λ a b. eqb (K .code (f a b)) (K .code (g a b)))) → (a b : Sign) → f a b ≡ g a b
+rules K f g t a b = alike K (f a b) (g a b) (pairs (λ a b. eqb (K .code (f a b)) (K .code (g a b))) t a b)
+
+-- a rule answers s just where a test passes
+pub exactly : (f : Sign → Sign → Sign) (s : Sign) (g : Sign → Sign → Bool) → T (eachPair (λ a b. eqb (bitOf (eqb (indexOf (f a b)) (indexOf s))) (bitOf (g a b)))) → (a b : Sign) → (f a b ≡ s) ↔ (g a b ≡ true)
+exactly f s g t a b =
+    let e = tests (λ a b. eqb (indexOf (f a b)) (indexOf s)) g t a b in
+    let u = told-same (f a b) s in
+    (λ h. sym e ∙ u .0 h, λ h. u .1 (e ∙ h))
+
 -- ---- the table's test, and its law
 module _ {A : Type 0} (K : Coded A) (table : List (List A)) (default : A) (rule : Sign → Sign → A) where
   abbrev pub cell : ℕ → ℕ → A
@@ -116,4 +146,4 @@ module _ {A : Type 0} (K : Coded A) (table : List (List A)) (default : A) (rule 
   right = eachPair (λ a b. eqb (K .code (cell (indexOf a) (indexOf b))) (K .code (rule a b)))
 
   pub reads : T right → (i j : ℕ) (a b : Sign) → i ≡ indexOf a → j ≡ indexOf b → cell i j ≡ rule a b
-  reads t i j a b p q = rw (p, q) (alike K (cell (indexOf a) (indexOf b)) (rule a b) (pairs (λ a b. eqb (K .code (cell (indexOf a) (indexOf b))) (K .code (rule a b))) t a b))
+  reads t i j a b p q = rw (p, q) (rules K (λ a b. cell (indexOf a) (indexOf b)) rule t a b)

@@ -1,25 +1,25 @@
 -- The sign of the differences x - y is exact, and so says how every two numbers compare: the tests of the definitions, reflected.
 -- Assumes nothing.
-use mathlib.Core.Path.{_≡_, refl, sym, ap, subst, _∙_}
+use mathlib.Core.Path.{_≡_, refl, sym, ap, _∙_}
+use mathlib.Core.Logic.{_↔_}
 use mathlib.Core.Bool.{Bool, true, false, _&&_}
 use Prim.Native.Nat.{zero, suc}
-use native.Mathlib.Omega.{arith}
 use lib.IntN.{ℤ, pos, negsuc, negℤ, _+ℤ_, _-ℤ_, negℤ-negℤ}
 use lib.Signed.{_≤ℤ_, _<ℤ_}
 use Rattle.whole.specs.Whole.{_≼_, _≺_}
-use Rattle.whole.specs.declared.Order.{Order}
 use Rattle.whole.proofs.Decides.{Decides, holds, fails, weaken, branch}
-use Rattle.whole.proofs.Linear.{ints, sub as sub-parts, neg as neg-parts}
+use Rattle.whole.proofs.Linear.{ints, sub as sub-parts}
 use Rattle.sign.specs.declared.Sign.{Sign}
 use Rattle.sign.specs.declared.Sign.the-variants.{Negative, Zero, Positive, NonNeg, NonPos}
 use Rattle.sign.specs.Set.{Side, negative, nought, positive, sideOf, _has_, _∈_}
-use Rattle.sign.specs.Sides.{filled, _inside_, opposite, sum}
+use Rattle.sign.specs.Sides.{filled, _inside_, opposite}
 use Rattle.sign.specs.Compared.{strictly, weakly}
 use Rattle.sign.specs.Ported.{meet, add, neg, sub}
 use Rattle.sign.specs.Mended.{judged}
-use Rattle.sign.specs.Numbers.{_⊑_, Least₁, Least, Every, _≻_, _≽_, Not, Strict, Weak, Judged}
+use Rattle.sign.specs.Numbers.{Every, _≻_, _≽_, Not, Strict, Weak, Judged}
 use Rattle.sign.specs.Numbers as numbers
-use Rattle.sign.proofs.Laws.{was, decide, and-both, and-of, those-has, some-found, far, far-side, far-in, moved, side-below, side-at, side-above, from-inside, to-inside, filled-by, Reach, told-covers, told-reach, least-by, sums, side-neg}
+use Rattle.sign.specs.Wrong.{Shared}
+use Rattle.sign.proofs.Laws.{was, decide, and-both, and-of, those-has, some-found, far, far-in, side-below, side-at, side-above, from-inside, to-inside, filled-by, Reach, told-covers, told-reach, least-by, sums, side-neg}
 
 -- ---- sums, negation, differences
 
@@ -65,6 +65,18 @@ sub-reach a b d h =
 pub meet-has : (a b : Sign) (d : Side) → (meet a b has d) ≡ ((a has d) && (b has d))
 unfolding meet
 meet-has a b = those-has (λ d. (a has d) && (b has d))
+
+pub shared : (a b : Sign) → (filled (meet a b) ≡ true) ↔ Shared a b
+shared a b = (there, back)
+  where
+    there : filled (meet a b) ≡ true → Shared a b
+    there h =
+        let d = some-found (λ d. meet a b has d) h in
+        let k = and-both (a has d .side) (b has d .side) (sym (meet-has a b (d .side)) ∙ d .passes) in
+        record { number = far (d .side) (d .side); in-left = far-in a (d .side) (d .side) (k .0); in-right = far-in b (d .side) (d .side) (k .1) }
+
+    back : Shared a b → filled (meet a b) ≡ true
+    back w = filled-by (meet a b) (w .number) (record { is = meet-has a b (sideOf (w .number)) ∙ and-of (w .in-left .is) (w .in-right .is) })
 
 -- ---- every difference lies in r: the definitions' tests
 

@@ -1,16 +1,15 @@
 -- The arms of a match on a sign: what a definition says at each sign of an arm is one test of the arm's places, which antt computes.
 -- Assumes nothing.
 use mathlib.Core.Path.{_≡_, refl, sym, subst}
-use mathlib.Core.Bool.{Bool, true, false, _&&_}
+use mathlib.Core.Bool.{Bool, true, _&&_}
 use mathlib.Core.List.{List, [], _∷_}
-use mathlib.Core.Logic.{_⊎_, inl, inr}
+use mathlib.Core.Logic.{inl, inr}
 use Prim.Native.Nat.{ℕ}
 use lib.Dec.{T, eqb}
 use denote.Enum.Declared.{tagOf}
 use types.Run.{OneOf}
 use Rattle.sign.specs.declared.Sign.{Sign}
 use Rattle.sign.specs.declared.Sign.the-variants.{Top, Bottom, Negative, Zero, Positive, NonNeg, NonZero, NonPos}
-use Rattle.sign.specs.Index.{indexOf}
 use Rattle.sign.proofs.Sign.{the-type}
 use Rattle.sign.proofs.Cells.{Coded, alike, both-of, signAt}
 

@@ -1,22 +1,21 @@
 -- Signs by their sides: what a sign put together from sides has, and that a number of the right side can be found.
 -- Assumes nothing.
-use mathlib.Core.Path.{_≡_, refl, sym, ap, subst, _∙_}
-use mathlib.Core.Logic.{_≢_, _⊎_, inl, inr}
+use mathlib.Core.Path.{_≡_, refl, sym, subst, _∙_}
+use mathlib.Core.Logic.{_⊎_, inl, inr}
 use mathlib.Core.Bool.{Bool, true, false, _&&_, _||_, not}
 use Prim.Native.Nat.{ℕ, zero, suc, _*_, _<_}
 use native.Mathlib.Omega.{arith}
 use native.Mathlib.Nat.{mul-pos, zero-mul, mul-zero}
-use lib.Dec.{T}
-use lib.IntN.{ℤ, pos, negsuc, negℤ, _+ℤ_, _-ℤ_, _*ℤ_, negℤ-negℤ}
-use lib.Signed.{_≤ℤ_, _<ℤ_}
+use lib.IntN.{ℤ, pos, negsuc, negℤ, _+ℤ_, _*ℤ_}
+use lib.Signed.{_<ℤ_}
+use Rattle.whole.specs.Choice.{pick}
 use Rattle.whole.proofs.Decides.{Decides, holds, fails}
 use Rattle.whole.proofs.Linear.{ints, sum as sum-parts, neg as neg-parts}
 use Rattle.sign.specs.declared.Sign.{Sign}
-use Rattle.sign.specs.declared.Sign.the-variants.{Top, Bottom, Negative, Zero, Positive, NonNeg, NonZero, NonPos}
 use Rattle.sign.specs.Set.{Side, negative, nought, positive, sideOf, _has_, _∈_}
 use Rattle.sign.specs.Sides.{signOf, those, some, each, filled, _inside_, withNought, opposite, sum, product, reached}
+use Rattle.sign.specs.Ported.{ofSide, join}
 use Rattle.sign.specs.Numbers.{_⊑_, Least}
-use Rattle.sign.proofs.Cells.{both-of}
 
 -- ---- truth values
 
@@ -26,6 +25,10 @@ was h k = let z : _≡_ {A = ℕ} 0 1 = cc in absurd (omega arith)
 pub decide : {A : Type 0} (t : Bool) → (t ≡ true → A) → (A → t ≡ true) → Decides A (A → ⊥) t
 decide true f g = holds (f refl)
 decide false f g = fails (λ a. was (g a) refl)
+
+pub unpicked : {A : Type 0} (t : Bool) (x u v : A) → t ≡ false → pick t x u ≡ pick t x v → u ≡ v
+unpicked true x u v h e = was refl h
+unpicked false x u v h e = e
 
 pub and-both : (a b : Bool) → (a && b) ≡ true → (a ≡ true) × (b ≡ true)
 and-both true b h = (refl, h)
@@ -82,11 +85,11 @@ pub record Found (f : Side → Bool) : Type 0 where
   pub side : Side
   pub passes : f side ≡ true
 
-or-elim : (a b : Bool) → (a || b) ≡ true → (a ≡ true) ⊎ (b ≡ true)
+pub or-elim : (a b : Bool) → (a || b) ≡ true → (a ≡ true) ⊎ (b ≡ true)
 or-elim true b h = inl refl
 or-elim false b h = inr h
 
-or-right : (a b : Bool) → b ≡ true → (a || b) ≡ true
+pub or-right : (a b : Bool) → b ≡ true → (a || b) ≡ true
 or-right true b h = refl
 or-right false b h = h
 
@@ -155,9 +158,26 @@ side-above (negsuc k) h = absurd (omega ints)
 side-above (pos zero) h = absurd (omega ints)
 side-above (pos (suc k)) h = refl
 
+-- the sign of one side
+pub side-only : (p q : Side) → (ofSide p has q) ≡ true → q ≡ p
+side-only negative negative h = refl
+side-only negative nought h = was h refl
+side-only negative positive h = was h refl
+side-only nought negative h = was h refl
+side-only nought nought h = refl
+side-only nought positive h = was h refl
+side-only positive negative h = was h refl
+side-only positive nought h = was h refl
+side-only positive positive h = refl
+
+pub side-itself : (p : Side) → (ofSide p has p) ≡ true
+side-itself negative = refl
+side-itself nought = refl
+side-itself positive = refl
+
 -- ---- one sign inside another
 
-in-or-out : (a b : Bool) → (not a || b) ≡ true → a ≡ true → b ≡ true
+pub in-or-out : (a b : Bool) → (not a || b) ≡ true → a ≡ true → b ≡ true
 in-or-out true b h k = h
 in-or-out false b h k = was k refl
 
@@ -180,7 +200,11 @@ to-inside s t h = inside-of s t (λ d k. subst (λ (e : Side). (t has e) ≡ tru
 pub inside-test : (s t : Sign) → Decides (s ⊑ t) (s ⊑ t → ⊥) (s inside t)
 inside-test s t = decide (s inside t) (from-inside s t) (to-inside s t)
 
--- ---- a number that s has, if it is filled
+pub join-has : (a b : Sign) (d : Side) → (join a b has d) ≡ ((a has d) || (b has d))
+unfolding join
+join-has a b = those-has (λ d. (a has d) || (b has d))
+
+-- ---- a sign that has a number is filled
 
 pub filled-by : (s : Sign) (x : ℤ) → x ∈ s → filled s ≡ true
 filled-by s x h = some-of (λ d. s has d) (sideOf x) (h .is)
@@ -295,36 +319,14 @@ lies-product (pos (suc a)) (pos (suc b)) = rw (above-pos (suc a * suc b) (mul-po
 
 -- ---- a pair for each side is one test of the 27 triples of sides
 
-abbrev same-side : Side → Side → Bool
-same-side negative negative = true
-same-side negative nought = false
-same-side negative positive = false
-same-side nought negative = false
-same-side nought nought = true
-same-side nought positive = false
-same-side positive negative = false
-same-side positive nought = false
-same-side positive positive = true
-
-are-same : (c d : Side) → same-side c d ≡ true → c ≡ d
-are-same negative negative h = refl
-are-same negative nought h = was h refl
-are-same negative positive h = was h refl
-are-same nought negative h = was h refl
-are-same nought nought h = refl
-are-same nought positive h = was h refl
-are-same positive negative h = was h refl
-are-same positive nought h = was h refl
-are-same positive positive h = refl
-
 abbrev meets : (ℤ → ℤ → ℤ) → (Side → Side → Sign) → Side → Side → Side → Bool
-meets op f p q d = not (f p q has d) || same-side (sideOf (op (far d p) (far d q))) d
+meets op f p q d = not (f p q has d) || (ofSide d has sideOf (op (far d p) (far d q)))
 
 met-by : (op : ℤ → ℤ → ℤ) (f : Side → Side → Sign) → each (λ p. each (λ q. each (meets op f p q))) ≡ true →
     (p q d : Side) → (f p q has d) ≡ true → sideOf (op (far d p) (far d q)) ≡ d
 met-by op f t p q d h =
-    are-same (sideOf (op (far d p) (far d q))) d
-    (in-or-out (f p q has d) (same-side (sideOf (op (far d p) (far d q))) d)
+    side-only d (sideOf (op (far d p) (far d q)))
+    (in-or-out (f p q has d) (ofSide d has sideOf (op (far d p) (far d q)))
     (each-at (meets op f p q) (each-at (λ q. each (meets op f p q)) (each-at (λ p. each (λ q. each (meets op f p q))) t p) q) d) h)
 
 pub sums : Told _+ℤ_ sum

@@ -6,3 +6,4 @@ pub mod Compared
 pub mod Answer
 pub mod Ported
 pub mod Mended
+pub mod Wrong

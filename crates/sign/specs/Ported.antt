@@ -1,11 +1,11 @@
 -- What each operation of the Rust answers. What it reads off a table is said by sets, from sides; the rest as its text has it.
-use mathlib.Core.Bool.{Bool, true, false, _&&_, _||_}
+use mathlib.Core.Bool.{Bool, _&&_, _||_}
 use lib.IntN.{ℤ}
 use Rattle.whole.specs.Choice.{pick}
 use Rattle.whole.specs.declared.Order.{Order}
 use Rattle.whole.specs.declared.Order.the-variants.{Less, Equal, Greater, None}
 use Rattle.sign.specs.declared.Sign.{Sign}
-use Rattle.sign.specs.declared.Sign.the-variants.{Top, Bottom, Negative, Zero, Positive, NonNeg, NonZero, NonPos}
+use Rattle.sign.specs.declared.Sign.the-variants.{Negative, Zero, Positive, NonNeg, NonPos}
 use Rattle.sign.specs.Set.{Side, negative, nought, positive, sideOf, _has_}
 use Rattle.sign.specs.Sides.{those, _inside_, _same_, withNought, opposite, sum, product, reached}
 use Rattle.sign.specs.Compared.{strictly, weakly}

@@ -1,7 +1,7 @@
 -- `sign::mended::judged` meets its contract: its ifs are the definition's.
 -- Assumes nothing.
 use mathlib.Core.Path.{_≡_, refl, sym, ap, _∙_}
-use mathlib.Core.Bool.{Bool, true, false}
+use mathlib.Core.Bool.{true, false}
 use borrow.Author.Needs.{needs}
 use Rattle.sign.specs.declared.Sign.the-variants.{Zero, Positive, NonNeg}
 use Rattle.whole.proofs.Flags.{pick-yes, pick-no}

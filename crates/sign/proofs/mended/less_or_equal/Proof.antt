@@ -1,6 +1,6 @@
 -- `sign::mended::less_or_equal` meets its contract: the differences, judged.
 -- Assumes nothing.
-use mathlib.Core.Path.{_≡_, ap, _∙_}
+use mathlib.Core.Path.{ap, _∙_}
 use borrow.Author.Needs.{needs}
 use Rattle.sign.specs.declared.Sign.the-variants.{NonPos}
 use Rattle.sign.specs.Mended.{judged, lessOrEqual}

@@ -1,6 +1,5 @@
 -- `sign::ported::add` reads its table: the rule is one test of the 64 cells.
 -- Assumes nothing.
-use Prim.Native.Nat.{_<_}
 use native.Mathlib.Omega.{arith}
 use borrow.Author.Needs.{needs}
 use Rattle.sign.specs.declared.Sign.the-variants.{Top}

@@ -1,6 +1,6 @@
 -- `sign::ported::div` meets its contract: each arm is one test of its signs.
 -- Assumes nothing.
-use mathlib.Core.Path.{_≡_, ap, _∙_}
+use mathlib.Core.Path.{ap, _∙_}
 use mathlib.Core.List.{[], _∷_}
 use borrow.Author.Needs.{needs}
 use Rattle.sign.specs.declared.Sign.the-variants.{NonNeg, NonPos}

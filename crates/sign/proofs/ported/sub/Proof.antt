@@ -1,6 +1,6 @@
 -- `sign::ported::sub` meets its contract: the sum with the negated right.
 -- Assumes nothing.
-use mathlib.Core.Path.{_≡_, ap, _∙_}
+use mathlib.Core.Path.{ap, _∙_}
 use borrow.Author.Needs.{needs}
 use Rattle.sign.specs.Ported.{add, sub}
 use Rattle.sign.proofs.ported.sub.Statement.{statement}

@@ -1,6 +1,5 @@
 -- `sign::ported::weak_cmp` reads its table: the rule is one test of the 64 cells.
 -- Assumes nothing.
-use Prim.Native.Nat.{_<_}
 use native.Mathlib.Omega.{arith}
 use borrow.Author.Needs.{needs}
 use Rattle.whole.specs.declared.Order.the-variants.{Less}
