@@ -3,6 +3,8 @@
 use mathlib.Core.Path.{_≡_, refl, sym, ap, subst, _∙_}
 use mathlib.Core.Logic.{_≢_, _↔_, _⊎_, inl, inr}
 use mathlib.Core.Bool.{Bool, true, false, _&&_, _||_}
+use Prim.Native.Nat.{ℕ}
+use native.Mathlib.Omega.{arith}
 use lib.Dec.{eqb}
 use lib.IntN.{ℤ, pos, negsuc, negℤ, _+ℤ_, _-ℤ_, _*ℤ_, negℤ-negℤ}
 use lib.Signed.{quotZ, remZ}
@@ -15,6 +17,7 @@ use Rattle.whole.proofs.Linear.{ints}
 use Rattle.sign.specs.declared.Sign.{Sign}
 use Rattle.sign.specs.declared.Sign.the-variants.{Top, Bottom, Negative, Zero, Positive, NonNeg, NonZero, NonPos}
 use Rattle.refusal.specs.Number.{numberOf}
+use Rattle.refusal.proofs.Claims.{number-tells}
 use Rattle.sign.specs.declared.SignAnswer.{SignAnswer}
 use Rattle.sign.specs.declared.SignAnswer.the-variants.{Is, Refused}
 use Rattle.sign.specs.Set.{sideOf, _has_, _∈_}
@@ -29,7 +32,6 @@ use Rattle.sign.specs.Mended as mended
 use Rattle.sign.specs.Mended.{equals, less, greater, lessOrEqual, greaterOrEqual}
 use Rattle.sign.specs.Wrong.{listed, exchanged, missing0, overlapping, Shared, Missed}
 use Rattle.sign.proofs.Cells.{differ, exactly, told-same, tests, rules, orders, signs}
-use Rattle.sign.proofs.Answers.{is-no-refusal, number-fixes}
 use Rattle.sign.proofs.Truths.{judged-has, kept}
 use Rattle.sign.proofs.Quotients.{rem-in, quot-in, missed, mended-adds-0, ported-adds-0}
 use Rattle.sign.proofs.Laws.{was, unpicked, or-elim, or-right, join-has, side-only, side-itself, and-both, and-of, inside-test, told-covers, told-reach, least-by, products}
@@ -181,6 +183,9 @@ mended-not-right s = (
   λ h. kept (λ a b. mended.logicalNot a) (pos 1) (pos 1) (pos 0) tt s s h h,
 )
 
+is-no-refusal : {s : Sign} {n : ℕ} → is s ≡ refusedBy n → ⊥
+is-no-refusal e = let z : _≡_ {A = ℕ} 0 1 = cc in omega arith
+
 -- the ported one is refused by 4 on the other five signs, and on no more
 pub ported-not-refuses : (s : Sign) → (ported.logicalNot s ≡ refusedBy 4) ↔ ((s ≢ NonNeg) × (s ≢ Positive) × (s ≢ Zero))
 unfolding ported.logicalNot
@@ -198,7 +203,7 @@ pub said-fixes : (r s : SignAnswer) → said r ≡ said s → r ≡ s
 said-fixes (Is s) (Is t) e = cc
 said-fixes (Is s) (Refused r) e = absurd (is-no-refusal e)
 said-fixes (Refused r) (Is s) e = absurd (is-no-refusal (sym e))
-said-fixes (Refused r) (Refused q) e = let k : numberOf r ≡ numberOf q = cc in ap Refused (number-fixes r q k)
+said-fixes (Refused r) (Refused q) e = let k : numberOf r ≡ numberOf q = cc in ap Refused (number-tells r q k)
 
 -- ---- where the Rust is wrong by those sets
 

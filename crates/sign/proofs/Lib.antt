@@ -4,5 +4,4 @@ pub mod Laws
 pub mod Differences
 pub mod Quotients
 pub mod Truths
-pub mod Answers
 pub mod Claims
