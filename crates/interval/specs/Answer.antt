@@ -1,0 +1,14 @@
+-- What an answer tells, by document 01: its value, or the number by which it is refused.
+use Prim.Native.Nat.{ℕ}
+use Rattle.refusal.specs.Number.{numberOf}
+use Rattle.interval.specs.declared.Interval.{Interval}
+use Rattle.interval.specs.declared.IntervalAnswer.{IntervalAnswer}
+use Rattle.interval.specs.declared.IntervalAnswer.the-variants.{Is, Refused}
+
+pub data Answer (A : Type 0) : Type 0 where
+  is : A → Answer A
+  refused : ℕ → Answer A
+
+abbrev pub told : IntervalAnswer → Answer Interval
+told (Is v) = is v
+told (Refused r) = refused (numberOf r)

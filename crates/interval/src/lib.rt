@@ -1,0 +1,112 @@
+// Intervals: the whole numbers from min to max. Bottom, which stands for none, is [MAX, MIN].
+use refusal::Refusal;
+use sign::Sign;
+use whole::MAX;
+use whole::MIN;
+ghost use mathlib.Core.Path.{_≡_};
+ghost use lib.IntN.{ℤ, pos};
+ghost use mir.Syntax.{w64};
+ghost use Rattle.whole.specs.Range.{least, greatest};
+ghost use Rattle.interval.specs.Set.{_⋯_, single, isOnly, isBottom};
+ghost use Rattle.interval.specs.Mended.{filled};
+ghost use Rattle.interval.specs.Ported.{singleton, ofSign};
+
+pub mod ported; // ported.rt: the Rust's operations, a panic as a refusal
+pub mod mended; // mended.rt: the twins that are right
+
+// Canonical: min at most max, or bottom. Every pair is in the domain of the ported operations.
+pub struct Interval {
+    pub min: i64,
+    pub max: i64,
+}
+
+// The one number of an interval, if it has one only.
+pub enum Single {
+    One(i64),
+    None,
+}
+
+pub enum IntervalAnswer {
+    Is(Interval),
+    Refused(Refusal),
+}
+
+pub const BOOL_RANGE: Interval = Interval { min: 0, max: 1 };
+
+pub const TRUE_RANGE: Interval = Interval { min: 1, max: 1 };
+
+pub const FALSE_RANGE: Interval = Interval { min: 0, max: 0 };
+
+impl Interval {
+    pub const TOP: Interval = Interval { min: MIN, max: MAX };
+
+    pub const BOTTOM: Interval = Interval { min: MAX, max: MIN };
+
+    // [n, inf].
+    pub fn greater(n: i64) -> Interval
+        ensures { λ r. ⌜ r ≡ (n ⋯ greatest w64) ⌝ }
+    {
+        Interval { min: n, max: MAX }
+    }
+
+    // [-inf, n].
+    pub fn smaller(n: i64) -> Interval
+        ensures { λ r. ⌜ r ≡ (least w64 ⋯ n) ⌝ }
+    {
+        Interval { min: MIN, max: n }
+    }
+
+    pub fn of_number(n: i64) -> Interval
+        ensures { λ r. ⌜ r ≡ single n ⌝ }
+    {
+        Interval { min: n, max: n }
+    }
+
+    pub fn of_sign(s: Sign) -> Interval
+        ensures { λ r. ⌜ r ≡ ofSign s ⌝ }
+    {
+        match s {
+            Sign::Top => Interval::TOP,
+            Sign::Bottom => Interval::BOTTOM,
+            Sign::Negative => Interval { min: MIN, max: -1 },
+            Sign::Zero => Interval { min: 0, max: 0 },
+            Sign::Positive => Interval { min: 1, max: MAX },
+            Sign::NonNeg => Interval { min: 0, max: MAX },
+            Sign::NonZero => Interval::TOP,
+            Sign::NonPos => Interval { min: MIN, max: 0 },
+        }
+    }
+
+    pub fn singleton(self) -> Single
+        ensures { λ r. ⌜ r ≡ singleton self ⌝ }
+    {
+        if self.min == self.max {
+            Single::One(self.min)
+        } else {
+            Single::None
+        }
+    }
+
+    pub fn is_bottom(self) -> bool
+        ensures { λ r. ⌜ r ≡ isBottom w64 self ⌝ }
+    {
+        self.min == MAX && self.max == MIN
+    }
+
+    // Whether n is its one number.
+    pub fn is_only(self, n: i64) -> bool
+        ensures { λ r. ⌜ r ≡ isOnly self n ⌝ }
+    {
+        self.min == n && self.max == n
+    }
+
+    // Bottom for a pair that stands for nothing.
+    fn normalize(self) -> Interval
+        ensures { λ r. ⌜ r ≡ filled w64 self ⌝ }
+    {
+        if self.min > self.max {
+            return Interval::BOTTOM;
+        }
+        self
+    }
+}
