@@ -1,6 +1,7 @@
 pub mod Calls
 pub mod Test
 pub mod Ends
+pub mod PortedCalls
 pub mod Ranges
 pub mod Truth
 pub mod Rem

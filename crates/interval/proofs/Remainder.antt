@@ -110,12 +110,17 @@ reach-called = called (λ x y. maxℤ (negℤ x) y -ℤ pos 1)
 pub within-called : (a : Interval) (l m h n : ℤ) (r : Interval) → r ≡ remWithin a m n → m ≡ l → n ≡ h → r ≡ remWithin a l h
 within-called a = called (remWithin a)
 
-pub not-zero : (a b : Interval) (y : ℤ) (r s : Bool) → r ≡ isOnly b (pos 0) → r ≡ false → s ≡ ((a .min ≟ a .max) && (b .min ≟ b .max)) → s ≡ true → y ≡ b .min → (y ≟ pos 0) ≡ false
-not-zero a b y r s g h d e p = is-false (eq-test y (pos 0)) (λ z. none (no (only-test b (pos 0)) (sym g ∙ h)) (sym p ∙ z))
+pub not-zero : (a b : Interval) (y : ℤ) (s : Bool) → isOnly b (pos 0) ≡ false → s ≡ ((a .min ≟ a .max) && (b .min ≟ b .max)) → s ≡ true → y ≡ b .min → (y ≟ pos 0) ≡ false
+not-zero a b y s h d e p = is-false (eq-test y (pos 0)) (λ z. none (no (only-test b (pos 0)) h) (sym p ∙ z))
   where
     none : (b .min ≢ pos 0) ⊎ (b .max ≢ pos 0) → b .min ≡ pos 0 → ⊥
     none (inl n) z = n z
     none (inr n) z = n (sym (yes (both (eq-test (a .min) (a .max)) (eq-test (b .min) (b .max))) (sym d ∙ e) .1) ∙ z)
+
+-- the second half of an `||` that was false
+pub or-second : (p q r : Bool) → r ≡ (p || q) → r ≡ false → q ≡ false
+or-second true q r h e = cc
+or-second false q r h e = sym h ∙ e
 
 pub single-called : (x m y n : ℤ) (r : IntervalAnswer) → told r ≡ remSingle w64 m n → m ≡ x → n ≡ y → told r ≡ remSingle w64 x y
 single-called x m y n r h p q = rw (p, q) at h

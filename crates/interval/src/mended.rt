@@ -4,7 +4,11 @@ use super::FALSE_RANGE;
 use super::Interval;
 use super::IntervalAnswer;
 use super::TRUE_RANGE;
+use super::both_single;
+use super::greatest_of;
 use super::ported;
+use super::single_rem;
+use super::verdict;
 use refusal::Refusal;
 use whole::Exact;
 use whole::MAX;
@@ -134,18 +138,6 @@ fn least_of(x: Exact, y: Exact) -> Exact
     }
 }
 
-fn greatest_of(x: Exact, y: Exact) -> Exact
-    ensures { λ r. ⌜ r ≡ greatestOf x y ⌝ }
-{
-    match x {
-        Exact::Is(a) => match y {
-            Exact::Is(b) => Exact::Is(max_of(a, b)),
-            Exact::DoesNotFit => Exact::DoesNotFit,
-        },
-        Exact::DoesNotFit => Exact::DoesNotFit,
-    }
-}
-
 // The range of four corners, refused if one of them doesn't fit.
 fn corner_range(p: Exact, q: Exact, r: Exact, s: Exact) -> IntervalAnswer
     ensures { λ t. ⌜ told t ≡ rangeOf (leastOf (leastOf p q) (leastOf r s)) (greatestOf (greatestOf p q) (greatestOf r s)) ⌝ }
@@ -215,21 +207,6 @@ fn remainders(a: Interval, low: i64, high: i64) -> Interval
     }
 }
 
-// The remainder of two numbers, refused for MIN and -1.
-fn single_rem(x: i64, y: i64) -> IntervalAnswer
-    requires { ⌜ (y ≟ pos 0) ≡ false ⌝ }
-    ensures { λ r. ⌜ told r ≡ mended.remSingle w64 x y ⌝ }
-{
-    if y == -1 {
-        if x == MIN {
-            return IntervalAnswer::Refused(Refusal::DoesNotFit);
-        }
-        return IntervalAnswer::Is(FALSE_RANGE);
-    }
-    let z = x % y;
-    IntervalAnswer::Is(Interval { min: z, max: z })
-}
-
 // The range of remainders, by the greatest magnitude in b.
 fn rem_range(a: Interval, b: Interval) -> Interval
     requires { ⌜ empty? b ≡ false ⌝ }
@@ -237,12 +214,6 @@ fn rem_range(a: Interval, b: Interval) -> Interval
 {
     let high = reach(b.min, b.max);
     remainders(a, -high, high)
-}
-
-fn both_single(a: Interval, b: Interval) -> bool
-    ensures { λ r. ⌜ r ≡ ((a .min ≟ a .max) && (b .min ≟ b .max)) ⌝ }
-{
-    a.min == a.max && b.min == b.max
 }
 
 fn rem_of(a: Interval, b: Interval) -> IntervalAnswer
@@ -268,19 +239,6 @@ pub fn rem(a: Interval, b: Interval) -> IntervalAnswer
 }
 
 // ---- comparisons
-
-// True if it holds for every pair, false if for none, else both.
-fn verdict(every: bool, none: bool) -> Interval
-    ensures { λ r. ⌜ r ≡ mended.verdict every none ⌝ }
-{
-    if every {
-        TRUE_RANGE
-    } else if none {
-        FALSE_RANGE
-    } else {
-        BOOL_RANGE
-    }
-}
 
 fn equal_ever(a: Interval, b: Interval) -> bool
     ensures { λ r. ⌜ r ≡ ((a .max ≤? b .min) && (b .max ≤? a .min)) ⌝ }

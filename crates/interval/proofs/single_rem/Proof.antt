@@ -9,8 +9,8 @@ use Rattle.whole.proofs.Flags.{eq-true, eq-false, divisor}
 use Rattle.whole.proofs.Decides.{eq-test, no}
 use Rattle.whole.proofs.Divide.{fits-quot, fits-rem}
 use Rattle.interval.proofs.Remainder.{rem-refused, rem-none, rem-plain}
-use Rattle.interval.proofs.mended.single_rem.Statement.{statement}
-use Rattle.interval.proofs.mended.single_rem.Tie as tie
+use Rattle.interval.proofs.single_rem.Statement.{statement}
+use Rattle.interval.proofs.single_rem.Tie as tie
 
 other : (c : tie.Else1) → c .before .args .y ≢ negsuc 0
 other c = eq-false {w = w64} (c .before .fits .y) ones-fits (c .if1 .left)

@@ -2,8 +2,8 @@ use Rattle.interval.specs.Ends.{greatestOf}
 use Rattle.whole.proofs.Calls.{max-called}
 use Rattle.whole.proofs.Flags.{flags}
 use borrow.Author.Needs.{needs}
-use Rattle.interval.proofs.mended.greatest_of.Statement.{statement}
-use Rattle.interval.proofs.mended.greatest_of.Tie as tie
+use Rattle.interval.proofs.greatest_of.Statement.{statement}
+use Rattle.interval.proofs.greatest_of.Tie as tie
 
 enum-known-x : tie.Need-enum-known-x
 enum-known-x c = search needs
