@@ -1,0 +1,11 @@
+pub mod Calls
+pub mod Test
+pub mod Ends
+pub mod PortedCalls
+pub mod Ranges
+pub mod Truth
+pub mod Rem
+pub mod Remainder
+pub mod Canonical
+pub mod Narrow
+pub mod Claims
