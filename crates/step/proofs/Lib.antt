@@ -1,2 +1,4 @@
 pub mod Calls
 pub mod Divided
+pub mod Shapes
+pub mod Ranges

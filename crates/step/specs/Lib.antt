@@ -1,2 +1,5 @@
 pub mod Run
 pub mod Kind
+pub mod Range
+pub mod Fair
+pub mod Valid
