@@ -2,3 +2,5 @@ pub mod Calls
 pub mod Divided
 pub mod Shapes
 pub mod Ranges
+pub mod Gave
+pub mod Signs

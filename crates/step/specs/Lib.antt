@@ -3,3 +3,4 @@ pub mod Kind
 pub mod Range
 pub mod Fair
 pub mod Valid
+pub mod Signs
