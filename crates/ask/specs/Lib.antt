@@ -1,1 +1,3 @@
 pub mod Taken
+pub mod Said
+pub mod Number

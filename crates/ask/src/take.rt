@@ -1,8 +1,8 @@
 // Operands of a question: each stands after one space.
 ghost use mathlib.Core.Path.{_≡_};
-ghost use Rattle.ask.specs.Taken.{numberAfter, twoAfter};
+ghost use Rattle.text.specs.Word.{firstCode, secondCode};
+ghost use Rattle.ask.specs.Taken.{numberAfter, twoAfter, nameAfter, nextAfter};
 use text::decimal::Got;
-use text::hex::Bytes;
 use text::word::Word;
 
 // A number, and the place after it.
@@ -41,8 +41,10 @@ pub fn two(line: &[u8], at: usize) -> Pair
     }
 }
 
-// A name; both its numbers are 0 if there is none.
-pub fn name(line: &[u8], at: usize) -> Word {
+// A name, as text::word has it; both its numbers are 0 if there is none.
+pub fn name(line: &[u8], at: usize) -> Word
+    ensures { λ r. ⌜ (r .next ≡ nextAfter (now (line .entry)) at) × (r .first ≡ firstCode (nameAfter (now (line .entry)) at)) × (r .second ≡ secondCode (nameAfter (now (line .entry)) at)) ⌝ }
+{
     if line.len() <= at {
         return nameless(at);
     }
@@ -53,7 +55,9 @@ pub fn name(line: &[u8], at: usize) -> Word {
     }
 }
 
-fn nameless(at: usize) -> Word {
+fn nameless(at: usize) -> Word
+    ensures { λ r. ⌜ (r .next ≡ at) × (r .first ≡ 0) × (r .second ≡ 0) ⌝ }
+{
     Word {
         first: 0,
         second: 0,
