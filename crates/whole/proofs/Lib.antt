@@ -14,3 +14,4 @@ pub mod Divides
 pub mod CommonDivisor
 pub mod Congruence
 pub mod Floor
+pub mod Claims

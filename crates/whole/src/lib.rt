@@ -21,6 +21,14 @@ pub enum Exact {
     DoesNotFit,
 }
 
+// How two values compare: one of three ways, or none.
+pub enum Order {
+    Less,
+    Equal,
+    Greater,
+    None,
+}
+
 // ---- the least and the greatest
 
 pub fn min_of(a: i64, b: i64) -> i64
