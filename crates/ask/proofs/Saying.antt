@@ -34,8 +34,9 @@ place-append [] us out at = refl
 place-append (t ∷ ts) us out at = place-append ts us (putBytes out at t) (next out at t)
 
 -- texts, and then more of them
-pub says-then : (ts us : List (List ℕ)) (out : List ℕ) (at : ℕ) (mid : List ℕ) (e : ℕ) (left : List ℕ) (end : ℕ) → Says ts out at mid e → Says us mid e left end → Says (ts ++ us) out at left end
-says-then ts us out at mid e left end p q = record {
+infixr 5 _and-then_
+pub _and-then_ : {ts us : List (List ℕ)} {out mid left : List ℕ} {at e end : ℕ} → Says ts out at mid e → Says us mid e left end → Says (ts ++ us) out at left end
+_and-then_ {ts} {us} {out} {at} p q = record {
   leaves = q .leaves ∙ rw (p .leaves, p .ends) (sym (output-append ts us out at));
   ends = q .ends ∙ rw (p .leaves, p .ends) (sym (place-append ts us out at));
 }

@@ -1,7 +1,7 @@
 -- What is said: texts that are put into the output one after the other. A text that has no room is left out.
 use Prim.Native.Nat.{ℕ, _+_}
 use mathlib.Core.Path.{_≡_}
-use mathlib.Core.List.{List, [], _∷_}
+use mathlib.Core.List.{List, [], _∷_, _++_}
 use lib.ListN.{length}
 use Rattle.whole.specs.Choice.{pick}
 use Rattle.text.specs.declared.Put.{Put}
@@ -24,6 +24,11 @@ output (t ∷ ts) out at = output ts (putBytes out at t) (next out at t)
 unfoldable pub place : List (List ℕ) → List ℕ → ℕ → ℕ
 place [] out at = at
 place (t ∷ ts) out at = place ts (putBytes out at t) (next out at t)
+
+-- the texts as one
+unfoldable pub joined : List (List ℕ) → List ℕ
+joined [] = []
+joined (t ∷ ts) = t ++ joined ts
 
 pub record Says (ts : List (List ℕ)) (out : List ℕ) (at : ℕ) (left : List ℕ) (end : ℕ) : Type 0 where
   pub leaves : left ≡ output ts out at

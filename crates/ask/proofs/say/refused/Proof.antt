@@ -1,9 +1,5 @@
-use mathlib.Core.List.{[], _∷_}
 use borrow.Author.Needs.{needs}
-use Rattle.refusal.specs.Number.{numberOf}
-use Rattle.text.specs.Ascii.{ascii}
-use Rattle.text.specs.Decimal.{digits}
-use Rattle.ask.proofs.Saying.{says-then}
+use Rattle.ask.proofs.Saying.{_and-then_}
 use Rattle.ask.proofs.say.refused.Statement.{statement}
 use Rattle.ask.proofs.say.refused.Tie as tie
 
@@ -26,9 +22,7 @@ same-length : tie.Need-same-length
 same-length c = search needs
 
 returns : tie.Need-returns
-returns c =
-    let a = c .before .before .before .before .before .before .before .before .before .before .before .args in
-    says-then (ascii "refused by " ∷ []) (digits (numberOf (a .why)) ∷ []) (a .out .now) (a .made) _ _ _ _ (c .before .before .before .before .before .before .before .word .ensures) (rw (c .before .before .before .number .ensures) at (c .before .before .natural .ensures))
+returns c = (c .before .before .before .before .before .before .before .word .ensures) and-then (rw (c .before .before .before .number .ensures) at (c .before .before .natural .ensures))
 
 pub refused-spec : {M : Type 1} → statement M
 refused-spec =
