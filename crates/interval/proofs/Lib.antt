@@ -14,3 +14,5 @@ pub mod Claims
 pub mod ClaimsLattice
 pub mod ClaimsCompared
 pub mod ClaimsSign
+pub mod ClaimsPorted
+pub mod ClaimsNumbers
