@@ -1,4 +1,4 @@
-// Answers the questions on standard input, a line each: the syntax stands in the README.
+// Answers the questions on standard input, a line each: the name of a family and of an operation, and its operands.
 mod line;
 mod number;
 mod say;

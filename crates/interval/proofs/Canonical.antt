@@ -44,3 +44,8 @@ canonical-is {w} none = rw (is-true (lt-test (least w) (greatest w)) (λ h. omeg
 pub has-number : {w : Width} {i : Interval} → Canonical w i → NotBottom w i → Proper w i
 has-number (some p) f = p
 has-number {w} none f = unlike w f
+
+-- both its ends are numbers of the width
+pub in-width : {w : Width} {i : Interval} → Canonical w i → (least w ≤ℤ i .min) × (i .min ≤ℤ greatest w) × (least w ≤ℤ i .max) × (i .max ≤ℤ greatest w)
+in-width (some p) = (p .above, omega ints, omega ints, p .below)
+in-width {w} none = let s = signs w in (omega ints, omega ints, omega ints, omega ints)

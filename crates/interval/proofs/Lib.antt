@@ -8,4 +8,11 @@ pub mod Rem
 pub mod Remainder
 pub mod Canonical
 pub mod Narrow
+pub mod Filled
+pub mod Clamp
 pub mod Claims
+pub mod ClaimsLattice
+pub mod ClaimsCompared
+pub mod ClaimsSign
+pub mod ClaimsPorted
+pub mod ClaimsNumbers

@@ -8,14 +8,17 @@ use lib.Dec.{ltb, leb, eqb}
 use lib.IntN.{ℤ}
 use lib.ListN.{length, take, drop}
 use lib.Seq.{sets, sets-eq, take-append-seam}
-use borrow.Author.Tests.{leb-true, ltb-false, eqb-true, le-leb, le-ltb, eq-eqb}
+use borrow.Author.Tests.{leb-true, ltb-false, eqb-true, le-leb, le-ltb, eq-eqb, leb-false}
 use Rattle.whole.specs.Choice.{pick}
-use Rattle.sheet.specs.Got.{Got, got, refused, Verdict, fine, wrong}
+use Rattle.sheet.specs.Got.{Got, got, refused, Verdict, fine, wrong, verdictOf}
+use Rattle.sheet.specs.Number.{readNumber}
 use Rattle.sheet.specs.Step.{Step}
-use Rattle.sheet.specs.Sheet.{parse, stepsFault, bytesOf, flat, stepsOf}
+use Rattle.sheet.specs.Sheet.{parse, stepsFault, bytesOf, flat, stepsOf, stepsFrom}
 use Rattle.sheet.specs.Answer.{done, refusedAt, refusedBy, stop, answer, content, planOf, reading, planFor, writing}
 use Rattle.sheet.specs.Lent.{Words}
+use Rattle.sheet.proofs.Parts.{length-flat, steps-length}
 use Rattle.sheet.proofs.Plans.{steps-count}
+use Rattle.sheet.proofs.Stepped.{got-of}
 use Rattle.sheet.proofs.Sheeted.{Fitted, none-left, fitted}
 
 -- ---- steps and their numbers
@@ -95,6 +98,31 @@ refuses s room r p h = by-parse (parse s) refl h
         let em : m ≡ r = cc in
         let eq : q ≡ p = cc in
         rw (em, eq) at e
+
+-- 256 steps at most, so that 1024 numbers are room for any sheet
+pub parse-few : (s : List ℕ) (xs : List Step) (end : ℕ) → parse s ≡ got xs end → length xs ≤ 256
+unfolding parse
+parse-few s xs end h =
+    let g = got-of (readNumber s 0) _ xs end h in
+    by-count (g .0) (g .1 .0) (ltb 256 (g .0)) refl (g .1 .1 .1)
+  where
+    by-count : (n p : ℕ) (t : Bool) → ltb 256 n ≡ t → pick t (refused 10 0) (stepsFrom n s 0 p) ≡ got xs end → length xs ≤ 256
+    by-count n p true l e = let z : _≡_ {A = ℕ} 0 1 = cc in absurd (omega arith)
+    by-count n p false l e =
+        let c : length xs ≡ n = rw e at (steps-length n s 0 p (ap verdictOf e)) in
+        omega (arith, ltb-false 256 n l)
+
+pub enough-room : (s : List ℕ) (room : List ℤ) → 1024 ≤ length room → (r : ℕ) → answer (reading s) room ≡ refusedBy r → ⊥
+unfolding reading
+enough-room s room long r h = by-parse (parse s) refl h
+  where
+    by-room : (xs : List Step) (t : Bool) → length xs ≤ 256 → leb (length (flat xs)) (length room) ≡ t → pick t (done (length xs)) (refusedBy 16) ≡ refusedBy r → ⊥
+    by-room xs true few l g = let z : _≡_ {A = ℕ} 0 1 = cc in omega arith
+    by-room xs false few l g = omega (arith, leb-false (length (flat xs)) (length room) l, length-flat xs)
+
+    by-parse : (g : Got (List Step)) → parse s ≡ g → answer (planOf g) room ≡ refusedBy r → ⊥
+    by-parse (got xs p) e g = by-room xs (leb (length (flat xs)) (length room)) (parse-few s xs p e) refl g
+    by-parse (refused m p) e g = let z : _≡_ {A = ℕ} 0 1 = cc in omega arith
 
 -- ---- an answer that writes
 

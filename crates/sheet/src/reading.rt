@@ -111,7 +111,7 @@ fn read_fields(s: &[u8], p: usize, op: u64, f: Fields, k: usize) -> StepRead
 }
 
 // Step k at the place `at`.
-pub fn read_step(s: &[u8], at: usize, k: usize) -> StepRead
+fn read_step(s: &[u8], at: usize, k: usize) -> StepRead
     requires { ⌜ k ≤ 256 ⌝ }
     ensures { λ r. ⌜ stepFound r ≡ stepAt (now (s .entry)) at k ⌝ }
 {
@@ -128,7 +128,7 @@ pub fn read_step(s: &[u8], at: usize, k: usize) -> StepRead
 }
 
 // Whether n steps and then the end stand at the place `from`.
-pub fn check_steps(s: &[u8], from: usize, n: usize) -> Checked
+pub(crate) fn check_steps(s: &[u8], from: usize, n: usize) -> Checked
     requires { ⌜ n ≤ 256 ⌝ }
     ensures { λ r. ⌜ checkFound r ≡ verdictOf (stepsFrom n (now (s .entry)) 0 from) ⌝ }
 {
@@ -153,7 +153,7 @@ pub fn check_steps(s: &[u8], from: usize, n: usize) -> Checked
 }
 
 // Stores n steps that were checked, four numbers a step.
-pub fn fill_steps(s: &[u8], from: usize, n: usize, out: &mut [i64])
+pub(crate) fn fill_steps(s: &[u8], from: usize, n: usize, out: &mut [i64])
     requires { ⌜ (n ≤ 256) × (n * 4 ≤ length (now out)) × (verdictOf (stepsFrom n (now s) 0 from) ≡ fine) ⌝ }
     ensures { λ _. ⌜ now (out .exit) ≡ sets (now (out .entry)) 0 (flat (stepsIn (stepsFrom n (now (s .entry)) 0 from))) ⌝ }
 {

@@ -1,6 +1,6 @@
 -- The bytes of a quoted text.
 use Prim.Native.Nat.{ℕ}
-use Prim.Native.Char.{Char, code}
+use Prim.Native.Char.{code}
 use Prim.Native.String.{String, [], _∷_}
 use mathlib.Core.List.{List}
 use mathlib.Core.List as list
