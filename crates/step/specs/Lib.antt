@@ -4,3 +4,4 @@ pub mod Range
 pub mod Fair
 pub mod Valid
 pub mod Signs
+pub mod Panel

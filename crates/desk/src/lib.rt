@@ -1,0 +1,4 @@
+// The desk.
+pub fn nothing() -> u64 {
+    0
+}
