@@ -3,4 +3,4 @@ pub mod Divided
 pub mod Shapes
 pub mod Ranges
 pub mod Gave
-pub mod Signs
+pub mod SignHas

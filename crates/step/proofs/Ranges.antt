@@ -92,4 +92,3 @@ module _ {w : Width} {i j k : Interval} (p : Proper w i) (q : Proper w j) (r : P
   fair Not f = first p q r (λ _. sure p q r (λ x y z s t u. not-told s) (verdict-proper _ _))
   fair Same f = sure p q r (λ x y z s t u. s) p
   fair Choose f = first p q r (λ _. sure p q r chosen chosen-proper)
-

@@ -5,3 +5,4 @@ pub mod Fair
 pub mod Valid
 pub mod Signs
 pub mod Panel
+pub mod Told

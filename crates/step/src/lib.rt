@@ -2,7 +2,9 @@
 use refusal::Refusal;
 
 pub mod kind; // kind.rt: what a step of a sheet does
+pub mod range; // range.rt: the range that each operator shows
 pub mod run; // run.rt: on numbers
+pub mod signs; // signs.rt: the sign that each operator shows
 
 // What a step other than an input does. An operator takes up to three operands, and passes over those that it has no use for.
 pub enum Operator {
