@@ -1,0 +1,4 @@
+pub mod Values
+pub mod Calls
+pub mod Cases
+pub mod Remainders
