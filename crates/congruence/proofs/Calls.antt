@@ -7,12 +7,12 @@ use Rattle.whole.specs.Test.{_≟_}
 use Rattle.whole.proofs.Flags.{eq-is, was-true, was-false}
 use Rattle.congruence.specs.declared.Congruence.{Congruence}
 use Prim.Native.Nat.{ℕ}
-use lib.IntN.{ℤ, pos, negℤ, natAbs, _+ℤ_, _-ℤ_, _*ℤ_}
+use lib.IntN.{ℤ, pos, negℤ, natAbs, _+ℤ_, _-ℤ_, _*ℤ_, +ℤ-idl}
 use lib.Signed.{quotZ, remZ}
 use mir.Syntax.{w64}
 use mir.Val.{SFits, toZ, ofZ}
 use mir.Facts.{toZ-ofZ}
-use Rattle.whole.specs.Divides.{floorRem}
+use Rattle.whole.specs.Divides.{gcd, floorRem}
 use Rattle.whole.specs.Exact.{exactly}
 use Rattle.whole.specs.declared.Exact.{Exact}
 use Rattle.whole.specs.declared.Exact.the-variants as exact
@@ -20,6 +20,7 @@ use Rattle.whole.proofs.Calls.{called}
 use Rattle.congruence.specs.Numbers.{gcdThen, absThen, alike?, formula}
 use Rattle.congruence.specs.Set.{cong}
 use Rattle.congruence.specs.Ported as ported
+use Rattle.congruence.specs.Mended as mended
 use Rattle.congruence.specs.declared.CongruenceAnswer.{CongruenceAnswer}
 use Rattle.congruence.specs.declared.CongruenceAnswer.the-variants.{Is}
 use Rattle.congruence.specs.declared.TruthAnswer.{TruthAnswer}
@@ -154,4 +155,40 @@ below-call = handed-all ported.below?
 pub divided-by-call : (a : Congruence) (k : ℤ) (r : CongruenceAnswer) → r ≡ ported.dividedBy a (toZ w64 (ofZ w64 k)) → SFits w64 k → r ≡ ported.dividedBy a k
 divided-by-call a = handed-1 (ported.dividedBy a)
 
-pub ruleset calls = (is-read, neg-call, add-call, sub-call, mul-call, quot-call, gcd-call, lcm-call, rem-call, floor-call, distance-call, alike-call, magnitude-call, gcd-then-call, abs-then-call, exact-of-call, held-call, normalize-call, only-call, rem-equal, leaves-is, leaves-not, leaves-told, leaves-off, leaves-on, made-call, asserted-call, indivisible-call, reduced-call, on-truth-call, is-value, formula-call, below-call, divided-by-call)
+-- of the mended operations' parts
+pub gcd-u64-call : (x k y n r : ℕ) → r ≡ gcd k n → k ≡ x → n ≡ y → r ≡ gcd x y
+gcd-u64-call x k y n r h p q = rw (p, q) at h
+
+pub result-call : (z k g n : Exact) (over o v : Congruence) → v ≡ mended.resultOf k n o → k ≡ z → n ≡ g → o ≡ over → v ≡ mended.resultOf z g over
+result-call z k g n over o v h p q s = rw (p, q, s) at h
+
+pub class-call : (z : ℤ) (m k : ℕ) (v : Congruence) → v ≡ mended.classOf w64 (toZ w64 (ofZ w64 z)) k → SFits w64 z → k ≡ m → v ≡ mended.classOf w64 z m
+class-call z m k v h p q = rw q at (simp (toZ-ofZ p) at h)
+
+pub only-of-call : (z k : Exact) (v : Congruence) → v ≡ mended.onlyOf k → k ≡ z → v ≡ mended.onlyOf z
+only-of-call z k v h p = rw p at h
+
+module _ (x y : ℤ) (m k : ℕ) (v : Congruence) where
+  pub sum-call : v ≡ mended.exactOf w64 (toZ w64 (ofZ w64 x) +ℤ toZ w64 (ofZ w64 y)) k → SFits w64 x → SFits w64 y → k ≡ m → v ≡ mended.exactOf w64 (x +ℤ y) m
+  sum-call h p q e = rw e at (simp (toZ-ofZ p, toZ-ofZ q) at h)
+
+  pub difference-call : v ≡ mended.exactOf w64 (toZ w64 (ofZ w64 x) -ℤ toZ w64 (ofZ w64 y)) k → SFits w64 x → SFits w64 y → k ≡ m → v ≡ mended.exactOf w64 (x -ℤ y) m
+  difference-call h p q e = rw e at (simp (toZ-ofZ p, toZ-ofZ q) at h)
+
+pub negative-call : (y : ℤ) (m k : ℕ) (v : Congruence) → v ≡ mended.exactOf w64 (pos 0 -ℤ toZ w64 (ofZ w64 y)) k → SFits w64 y → k ≡ m → v ≡ mended.exactOf w64 (negℤ y) m
+negative-call y m k v h p e = rw e at (simp (toZ-ofZ p, +ℤ-idl) at h)
+
+pub by-number-call : (a : Congruence) (k : ℤ) (v : Congruence) → v ≡ mended.byNumber w64 a (toZ w64 (ofZ w64 k)) → SFits w64 k → v ≡ mended.byNumber w64 a k
+by-number-call a = handed-1 (mended.byNumber w64 a)
+
+pub has-call : (a : Congruence) (k : ℤ) (r t : Bool) → r ≡ mended.has? a (toZ w64 (ofZ w64 k)) → SFits w64 k → r ≡ t → mended.has? a k ≡ t
+has-call a k r t h p q = sym (handed-1 (mended.has? a) k r h p) ∙ q
+
+pub alike-off : (x y : ℤ) (m n : ℕ) (r : Bool) → r ≡ alike? n (toZ w64 (ofZ w64 x)) (toZ w64 (ofZ w64 y)) → n ≡ m → SFits w64 x → SFits w64 y → not r ≡ not (alike? m x y)
+alike-off x y m n r h e p q = ap not (alike-call x y m n r h e p q)
+
+pub overlap-call : (a b : Congruence) (v : Congruence) → v ≡ mended.overlap w64 (cong (toZ w64 (ofZ w64 (a .constant))) (toZ w64 (ofZ w64 (a .modulus)))) (cong (toZ w64 (ofZ w64 (b .constant))) (toZ w64 (ofZ w64 (b .modulus)))) →
+    SFits w64 (a .constant) → SFits w64 (a .modulus) → SFits w64 (b .constant) → SFits w64 (b .modulus) → v ≡ mended.overlap w64 a b
+overlap-call = handed-all (mended.overlap w64)
+
+pub ruleset calls = (is-read, neg-call, add-call, sub-call, mul-call, quot-call, gcd-call, lcm-call, rem-call, floor-call, distance-call, alike-call, magnitude-call, gcd-then-call, abs-then-call, exact-of-call, held-call, normalize-call, only-call, rem-equal, leaves-is, leaves-not, leaves-told, leaves-off, leaves-on, made-call, asserted-call, indivisible-call, reduced-call, on-truth-call, is-value, formula-call, below-call, divided-by-call, gcd-u64-call, result-call, class-call, only-of-call, sum-call, difference-call, negative-call, by-number-call, alike-off)

@@ -2,8 +2,15 @@
 use mathlib.Core.Path.{_≡_, refl, sym, ap, _∙_}
 use mathlib.Core.Bool.{Bool, true, false, not}
 use lib.IntN.{ℤ, pos, natAbs}
-use lib.Signed.{remZ}
-use mir.Syntax.{w64}
+use native.Mathlib.Nat.{pos-of-ne-zero}
+use native.Mathlib.Omega.{arith}
+use Prim.Native.Nat.{ℕ, _<_}
+use lib.Signed.{remZ, _<ℤ_}
+use borrow.Author.Tests.{ne-eqb}
+use Rattle.whole.specs.Choice.{pick}
+use Rattle.whole.specs.Range.{fits?}
+use Rattle.whole.proofs.Linear.{ints}
+use mir.Syntax.{Width, w64}
 use mir.Val.{SFits, toZ, ofZ}
 use mir.Facts.{toZ-ofZ}
 use Rattle.whole.specs.Test.{_≟_}
@@ -18,7 +25,7 @@ use Rattle.congruence.specs.declared.CongruenceAnswer.{CongruenceAnswer}
 use Rattle.congruence.specs.declared.CongruenceAnswer.the-variants.{Is, Refused}
 use Rattle.congruence.specs.declared.TruthAnswer.{TruthAnswer}
 use Rattle.congruence.specs.declared.TruthAnswer.the-variants as truths
-use Rattle.congruence.specs.Set.{cong}
+use Rattle.congruence.specs.Set.{cong, top, bottom}
 use Rattle.congruence.specs.Numbers.{gcdThen, absThen}
 use Rattle.congruence.specs.Mended as mended
 use Rattle.congruence.specs.Ported as ported
@@ -113,5 +120,72 @@ module _ (a b : Congruence) (s : CongruenceAnswer) (h : s ≡ ported.negated b) 
   pub subtract-none : (r : Refusal) → s ≡ Refused r → Refused r ≡ ported.subtracted a b
   unfolding ported.subtracted ported.addedTo
   subtract-none r p = rw (sym h ∙ p) refl
+
+-- ---- mended
+
+module _ (z g : Exact) (over : Congruence) where
+  pub result-none : z ≡ exact.DoesNotFit → over ≡ mended.resultOf z g over
+  unfolding mended.resultOf
+  result-none p = rw p refl
+
+  pub result-none-2 : (k : ℤ) → z ≡ exact.Is k → g ≡ exact.DoesNotFit → over ≡ mended.resultOf z g over
+  unfolding mended.resultOf
+  result-none-2 k p q = rw (p, q) refl
+
+  pub result-some : (k n : ℤ) (v : Congruence) → z ≡ exact.Is k → g ≡ exact.Is n → v ≡ cong (floorRem k n) n → v ≡ mended.resultOf z g over
+  unfolding mended.resultOf
+  result-some k n v p q h = rw (p, q) h
+
+pub ruleset result-cases = (result-none, result-none-2, result-some)
+
+pub only-none : (z : Exact) → z ≡ exact.DoesNotFit → bottom ≡ mended.onlyOf z
+unfolding mended.onlyOf
+only-none z p = rw p refl
+
+pub only-some : (z : Exact) (k : ℤ) (v : Congruence) → z ≡ exact.Is k → v ≡ cong k (pos 0) → v ≡ mended.onlyOf z
+unfolding mended.onlyOf
+only-some z k v p h = rw p h
+
+pub ruleset only-cases = (only-none, only-some)
+
+-- a number that was asked for is the one that was found
+pub found-is : (w : Width) (z k : ℤ) → exactly w z ≡ exact.Is k → k ≡ z
+unfolding exactly
+found-is w z k h = go (fits? w z) h
+  where
+    go : (t : Bool) → pick t (exact.Is z) exact.DoesNotFit ≡ exact.Is k → k ≡ z
+    go true e = cc
+    go false e = let i : _≡_ {A = ℕ} 0 1 = cc in absurd (omega arith)
+
+pub found-fits : (w : Width) (z k : ℤ) → exactly w z ≡ exact.Is k → fits? w z ≡ true
+unfolding exactly
+found-fits w z k h = go (fits? w z) h
+  where
+    go : (t : Bool) → pick t (exact.Is z) exact.DoesNotFit ≡ exact.Is k → t ≡ true
+    go true e = refl
+    go false e = let i : _≡_ {A = ℕ} 0 1 = cc in absurd (omega arith)
+
+pub not-found : (w : Width) (z : ℤ) → exactly w z ≡ exact.DoesNotFit → fits? w z ≡ false
+unfolding exactly
+not-found w z h = go (fits? w z) h
+  where
+    go : (t : Bool) → pick t (exact.Is z) exact.DoesNotFit ≡ exact.DoesNotFit → t ≡ false
+    go true e = let i : _≡_ {A = ℕ} 0 1 = cc in absurd (omega arith)
+    go false e = refl
+
+module _ (z : ℤ) (m : ℕ) (r : Exact) (some : m ≡ 0 → ⊥) (h : r ≡ exactly w64 (pos m)) where
+  pub class-none : r ≡ exact.DoesNotFit → top ≡ mended.exactOf w64 z m
+  unfolding mended.exactOf mended.classOf mended.resultOf
+  class-none p = rw (ne-eqb m 0 some, sym h ∙ p) refl
+
+  pub class-some : (k : ℤ) (v : Congruence) → r ≡ exact.Is k → v ≡ cong (floorRem z k) k → v ≡ mended.exactOf w64 z m
+  unfolding mended.exactOf mended.classOf mended.resultOf
+  class-some k v p e = rw (ne-eqb m 0 some, sym h ∙ p) e
+
+  pub above-zero : (k : ℤ) → r ≡ exact.Is k → pos 0 <ℤ k
+  above-zero k p =
+      let e = found-is w64 (pos m) k (sym h ∙ p) in
+      let n : 0 < m = pos-of-ne-zero some in
+      omega ints
 
 pub ruleset cases = (gcd-none, gcd-none-2, gcd-some, abs-none, abs-some, made-none, made-none-2, made-some, held-some, held-none, held-none-2, indivisible-none, indivisible-none-2, indivisible-some, on-refused, on-true, on-false, reduced-none, reduced-some, subtract-some, subtract-none)

@@ -11,9 +11,11 @@ use Rattle.whole.specs.Test.{_≟_}
 use Rattle.whole.proofs.Fits.{machine, zero-fits}
 use Rattle.whole.proofs.Flags.{bools, eq-yes, eq-no, eq-is}
 use Rattle.congruence.specs.declared.Congruence.{Congruence}
-use Rattle.congruence.specs.Set.{cong, bottom?, domain?, singles?}
+use Rattle.congruence.specs.Set.{cong, bottom?, domain?, singles?, form}
 use Rattle.congruence.specs.Numbers.{divides?}
+use Rattle.congruence.specs.Answer.{within2}
 use Rattle.congruence.specs.Ported as ported
+use Rattle.congruence.specs.Mended as mended
 
 -- a struct by its fields
 pub built : (a b m n : ℤ) → a ≡ m → b ≡ n → cong a b ≡ cong m n
@@ -43,6 +45,23 @@ below-told a b r t p q = sym p ∙ q
 
 pub divides-call : (a : Congruence) (d : ℤ) (r t : Bool) → r ≡ divides? (toZ w64 (ofZ w64 d)) a → SFits w64 d → r ≡ t → divides? d a ≡ t
 divides-call a d r t h p q = sym (simp (toZ-ofZ p) at h) ∙ q
+
+pub inside-told : (a b : Congruence) (r t : Bool) → r ≡ mended.inside? a b → r ≡ t → mended.inside? a b ≡ t
+inside-told a b r t p q = sym p ∙ q
+
+pub apart-told : (a b : Congruence) (r t : Bool) → r ≡ mended.apart? a b → r ≡ t → mended.apart? a b ≡ t
+apart-told a b r t p q = sym p ∙ q
+
+-- a comparison the other way round
+pub turned : (test : ℤ → ℤ → Bool) (a b : Congruence) → mended.onForms (mended.comparison test) a b ≡ mended.onForms (mended.comparison (λ x y. test y x)) b a
+unfolding within2 mended.comparison singles?
+turned test a b = simp (and-comm (domain? a) (domain? b), and-comm (form a .modulus ≟ pos 0) (form b .modulus ≟ pos 0))
+  where
+    and-comm : (s t : Bool) → (s && t) ≡ (t && s)
+    and-comm true true = refl
+    and-comm true false = refl
+    and-comm false true = refl
+    and-comm false false = refl
 
 pub domain-told : (a : Congruence) (r t : Bool) → r ≡ domain? a → r ≡ t → domain? a ≡ t
 domain-told a r t p q = sym p ∙ q

@@ -105,10 +105,11 @@ unfoldable pub difference : Width → Congruence → Congruence → Congruence
 difference w a b = beside a b (exactOf w (a .constant -ℤ b .constant) (gcd (natAbs (a .modulus)) (natAbs (b .modulus))))
 
 -- where a number of the formula doesn't fit: bottom for two single numbers, else top
+unfoldable pub over : Congruence → Congruence → Congruence
+over a b = pick (singles? a b) bottom top
+
 unfoldable pub product : Width → Congruence → Congruence → Congruence
-product w a b =
-    beside a b
-    (resultOf (exactly w (a .constant *ℤ b .constant)) (formula w a b) (pick (singles? a b) bottom top))
+product w a b = beside a b (resultOf (exactly w (a .constant *ℤ b .constant)) (formula w a b) (over a b))
 
 -- 000's rule for a single divisor d, its sign dropped from the modulus; bottom where the quotient doesn't fit
 unfoldable pub byNumber : Width → Congruence → ℤ → Congruence
