@@ -6,3 +6,5 @@ pub mod Valid
 pub mod Signs
 pub mod Panel
 pub mod Told
+pub mod Spacing
+pub mod Show
