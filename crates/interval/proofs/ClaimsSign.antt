@@ -115,3 +115,14 @@ sign-exact {a} c =
 -- so each number of the interval is one of its sign
 pub sign-covers : {a : Interval} → Canonical w64 a → (x : ℤ) → x ∈ a → S._∈_ x (signOf a)
 sign-covers c x h = record { is = sign-exact c (sideOf x) .1 (record { number = x; number-in = h; side = refl }) }
+
+-- at any width: a range with ordered ends
+pub ordered-sign-covers : {a : Interval} → a .min ≤ℤ a .max → (x : ℤ) → x ∈ a → S._∈_ x (signOf a)
+unfolding signOf
+ordered-sign-covers {a} o x h = record { is = exact (sideOf x) .1 (record { number = x; number-in = h; side = refl }) }
+  where
+    exact : Exact-sign a (signOf a)
+    exact =
+        branch (bottom-test w64 a) (Exact-sign a) (λ h. absurd (omega (ints, signs w64))) λ n.
+        branch (only-test a (pos 0)) (Exact-sign a) (λ h. sides Zero (fails (no-negative (omega ints))) (holds (zero-there (omega ints) (omega ints))) (fails (no-positive (omega ints)))) λ z.
+        side-exact o z

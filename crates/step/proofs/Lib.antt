@@ -4,3 +4,5 @@ pub mod Shapes
 pub mod Ranges
 pub mod Gave
 pub mod SignHas
+pub mod SpacingHas
+pub mod Lawful
