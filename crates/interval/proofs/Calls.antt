@@ -1,15 +1,13 @@
 -- What the code's calls and results leave, carried to the definitions: `answers` is handed to `search` beside `flags`.
-use mathlib.Core.Path.{_≡_, refl, sym, _∙_}
-use mathlib.Core.Bool.{Bool, true, false, not, _&&_, _||_}
-use lib.IntN.{ℤ, pos, negℤ, _+ℤ_, _-ℤ_, _*ℤ_}
+use mathlib.Core.Path.{_≡_, refl}
+use mathlib.Core.Bool.{Bool, true, false, _&&_, _||_}
+use lib.IntN.{ℤ}
 use mir.Syntax.{w64}
 use mir.Val.{ofZ}
 use Rattle.whole.specs.Test.{_≟_}
 use borrow.Author.Tests.{ne-eqb}
 use Rattle.whole.specs.Choice.{pick}
-use Rattle.whole.specs.Range.{least, greatest, fits?}
-use Rattle.whole.specs.Exact.{exactly}
-use Rattle.whole.specs.declared.Exact.{Exact}
+use Rattle.whole.specs.Range.{least, greatest}
 use Rattle.whole.proofs.Flags.{bools, eq-no, told, was-false, was-true, and-yes, and-no, and-no-2, or-yes, or-yes-2, or-no}
 use Rattle.whole.proofs.Calls.{called-1, called}
 use Rattle.interval.specs.declared.IntervalAnswer.{IntervalAnswer}

@@ -1,8 +1,8 @@
 -- The canonical intervals: those with a number, and bottom, which has none.
 use mathlib.Core.Path.{_≡_, refl}
 use mathlib.Core.Logic.{_≢_, _⊎_, inl, inr}
-use mathlib.Core.Bool.{Bool, true, false}
-use lib.IntN.{ℤ, pos}
+use mathlib.Core.Bool.{true, false}
+use lib.IntN.{ℤ}
 use lib.Signed.{_≤ℤ_, _<ℤ_}
 use mir.Syntax.{Width}
 use Rattle.whole.specs.Range.{least, greatest}

@@ -1,29 +1,25 @@
 -- What the mended operations are, by document 01's words. Set statements speak of proper intervals, those with a number and ends that fit; bottom is said apart.
-use mathlib.Core.Path.{_≡_, refl, sym, _∙_, ap}
+use mathlib.Core.Path.{_≡_, refl}
 use mathlib.Core.Logic.{_≢_, _⊎_, inl, inr}
-use mathlib.Core.Bool.{Bool, true, false, _&&_, _||_}
+use mathlib.Core.Bool.{true, false, _&&_, _||_}
 use Prim.Native.Nat.{ℕ}
-use lib.IntN.{ℤ, pos, negsuc, negℤ, _+ℤ_, _-ℤ_, _*ℤ_}
+use lib.IntN.{ℤ, pos, negℤ, _+ℤ_, _-ℤ_, _*ℤ_}
 use lib.Signed.{_≤ℤ_, _<ℤ_, quotZ, remZ}
 use mir.Syntax.{Width}
 use mir.Val.{SFits}
 use Rattle.whole.specs.Choice.{pick}
-use Rattle.whole.specs.Test.{truth, _<?_, _≤?_, _≟_}
-use Rattle.whole.specs.Whole.{minℤ, maxℤ}
-use Rattle.whole.specs.Range as Range
-use Rattle.whole.proofs.Linear.{ints, from-≢}
+use Rattle.whole.proofs.Linear.{ints}
 use Rattle.whole.proofs.Linear as L
-use Rattle.whole.proofs.Shapes.{lin}
 use Rattle.whole.proofs.Fits.{low, high}
-use Rattle.whole.proofs.Decides.{Decides, holds, fails, branch, both, either, lt-test, eq-test, is-true, is-false}
-use Rattle.interval.specs.Set.{Interval, _⋯_, _∈_, _∉_, _⊆_, top, bottom, single, isOnly, isBottom, empty?, canonical?, Proper, Canonical, some, none}
+use Rattle.whole.proofs.Decides.{holds, branch, both, eq-test, is-false}
+use Rattle.interval.specs.Set.{Interval, _⋯_, _∈_, _∉_, _⊆_, top, bottom, isOnly, empty?, canonical?, Proper, Canonical, none}
 use Rattle.interval.specs.Answer.{Answer, is, refused}
-use Rattle.interval.specs.Mended.{ranged, strict, lenient, neg, add, sub, mul, div, rem, remSingle, remRange, magnitude, ltV, leV, eqV, lt, gt, le, ge, eq, narrowed, filled, narrow, join}
+use Rattle.interval.specs.Mended.{ranged, strict, lenient, neg, add, sub, mul, div, rem, remSingle, ltV, leV, eqV, lt, gt, le, ge, eq, narrow, join}
 use Rattle.interval.proofs.Test.{in-test, only-test}
 use Rattle.interval.proofs.Ends.{Least, add-least, sub-least, mul-least, neg-least}
 use Rattle.interval.proofs.Truth as T
 use Rattle.interval.proofs.Truth.{Verdict}
-use Rattle.interval.proofs.Rem.{rem-covers, proper, signs}
+use Rattle.interval.proofs.Rem.{rem-covers, proper}
 use Rattle.interval.proofs.Canonical.{full}
 use Rattle.interval.proofs.Narrow.{Between, between-them}
 

@@ -1,35 +1,33 @@
 -- The ported arithmetic covers every result that fits; sums, differences and products are least where document 01 says so.
-use mathlib.Core.Path.{_≡_, refl, sym, _∙_}
+use mathlib.Core.Path.{_≡_, refl}
 use mathlib.Core.Logic.{_≢_, _⊎_, inl, inr}
-use mathlib.Core.Bool.{Bool, true, false, _||_}
-use Prim.Native.Nat.{ℕ}
-use lib.IntN.{ℤ, pos, negsuc, negℤ, natAbs, _+ℤ_, _-ℤ_, _*ℤ_}
-use lib.Signed.{_≤ℤ_, _<ℤ_, remZ}
+use mathlib.Core.Bool.{false}
+use lib.IntN.{ℤ, pos, negℤ, natAbs, _+ℤ_, _-ℤ_, _*ℤ_}
+use lib.Signed.{_≤ℤ_, remZ}
 use mir.Syntax.{w64}
 use mir.Val.{SFits}
 use Rattle.whole.specs.Choice.{pick}
 use Rattle.whole.specs.Test.{_≤?_, _<?_, _≟_}
-use Rattle.whole.specs.Whole.{minℤ, maxℤ, min4, max4}
-use Rattle.whole.specs.Range.{least, greatest, clamp, fits?}
+use Rattle.whole.specs.Whole.{maxℤ}
+use Rattle.whole.specs.Range.{least, greatest, clamp}
 use Rattle.whole.specs.Exact.{exactly}
-use Rattle.whole.specs.declared.Exact.the-variants.{Is, DoesNotFit}
 use Rattle.whole.specs.declared.Order.{Order}
-use Rattle.whole.specs.declared.Order.the-variants.{Less, Equal, Greater, None}
-use Rattle.whole.proofs.Linear.{ints, abs, split, from-≢}
+use Rattle.whole.specs.declared.Order.the-variants.{None}
+use Rattle.whole.proofs.Linear.{ints, abs, split}
 use Rattle.whole.proofs.Linear as L
 use Rattle.whole.proofs.Shapes.{lin}
 use Rattle.whole.proofs.Fits.{low, high}
 use Rattle.whole.proofs.Corners.{corners}
 use Rattle.whole.proofs.Divide.{rem-small, rem-nonneg, rem-nonpos}
-use Rattle.whole.proofs.Decides.{Decides, branch, both, either, le-test, lt-test, eq-test, fits-test, is-true, is-false, unequal}
+use Rattle.whole.proofs.Decides.{branch, both, either, le-test, eq-test, fits-test, is-false, unequal}
 use Rattle.interval.specs.Set.{Interval, _⋯_, _∈_, top, bottom, single, isBottom, Proper, Canonical, some, none}
 use Rattle.interval.specs.Answer.{Answer, is, refused}
-use Rattle.interval.specs.Mended.{lowCorner, highCorner, remSingle}
-use Rattle.interval.specs.Ported.{addMin, addMax, add, neg, addTo, sub, lowProduct, highProduct, mul, largest, weakCmp, sameOne, singleton, remBy, remLarge, rem}
+use Rattle.interval.specs.Mended.{remSingle}
+use Rattle.interval.specs.Ported.{addMin, addMax, add, neg, addTo, sub, mul, weakCmp, sameOne, singleton, remBy, remLarge, rem}
 use Rattle.interval.proofs.Test.{in-test, only-test}
 use Rattle.interval.proofs.Ends.{Least, add-least, sub-least, mul-least}
 use Rattle.interval.proofs.Rem.{signs}
-use Rattle.interval.proofs.Canonical.{IsBottom, NotBottom, bottom-test, nothing, in-width}
+use Rattle.interval.proofs.Canonical.{IsBottom, bottom-test, nothing, in-width}
 use Rattle.interval.proofs.Claims as M
 use Rattle.interval.proofs.Clamp.{clamp-under, clamp-over, clamp-is, four-under, four-over}
 

@@ -1,18 +1,18 @@
 -- The sign of an interval is exact: it has the sides of 0 on which the interval has a number, and no other.
-use mathlib.Core.Path.{_≡_, refl, sym}
+use mathlib.Core.Path.{_≡_, refl}
 use mathlib.Core.Logic.{_≢_, _⊎_, inl, inr, _↔_}
-use mathlib.Core.Bool.{Bool, true, false}
+use mathlib.Core.Bool.{Bool, true}
 use Prim.Native.Nat.{ℕ, zero, suc}
 use lib.IntN.{ℤ, pos, negsuc}
 use lib.Signed.{_≤ℤ_, _<ℤ_}
 use mir.Syntax.{w64}
 use Rattle.whole.proofs.Linear.{ints, from-≢}
-use Rattle.whole.proofs.Decides.{Decides, holds, fails, branch, both, le-test, lt-test, eq-test, yes}
+use Rattle.whole.proofs.Decides.{Decides, holds, fails, branch, le-test, lt-test}
 use Rattle.sign.specs.declared.Sign.{Sign}
-use Rattle.sign.specs.declared.Sign.the-variants.{Top, Bottom, Negative, Zero, Positive, NonNeg, NonZero, NonPos}
+use Rattle.sign.specs.declared.Sign.the-variants.{Top, Bottom, Negative, Zero, Positive, NonNeg, NonPos}
 use Rattle.sign.specs.Set as S
 use Rattle.sign.specs.Set.{Side, negative, nought, positive, sideOf, _has_}
-use Rattle.interval.specs.Set.{Interval, _⋯_, _∈_, bottom, single, Proper, Canonical, some, none}
+use Rattle.interval.specs.Set.{Interval, _∈_, Canonical, none}
 use Rattle.interval.specs.Ported.{signOf, sideSign}
 use Rattle.interval.proofs.Test.{only-test}
 use Rattle.interval.proofs.Ends.{low-in, high-in}

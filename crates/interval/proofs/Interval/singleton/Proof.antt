@@ -1,6 +1,6 @@
-use Rattle.interval.proofs.Calls.{differ}
 use Rattle.whole.proofs.Flags.{flags}
 use Rattle.interval.specs.Ported.{singleton}
+use Rattle.interval.proofs.Calls.{differ}
 use Rattle.interval.proofs.Interval.singleton.Statement.{statement}
 use Rattle.interval.proofs.Interval.singleton.Tie as tie
 

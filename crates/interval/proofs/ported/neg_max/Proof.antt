@@ -1,7 +1,7 @@
-use Rattle.interval.proofs.PortedCalls.{beside}
-use Rattle.interval.proofs.Calls.{differ}
 use Rattle.whole.proofs.Sums.{results}
 use Rattle.whole.proofs.Flags.{flags}
+use Rattle.interval.proofs.PortedCalls.{beside}
+use Rattle.interval.proofs.Calls.{differ}
 use Rattle.interval.proofs.ported.neg_max.Statement.{statement}
 use Rattle.interval.proofs.ported.neg_max.Tie as tie
 

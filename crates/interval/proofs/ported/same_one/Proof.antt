@@ -1,7 +1,7 @@
-use Rattle.interval.proofs.Calls.{differ}
-use Rattle.interval.specs.Ported.{sameOne}
-use Rattle.whole.proofs.Flags.{flags}
 use borrow.Author.Needs.{needs}
+use Rattle.whole.proofs.Flags.{flags}
+use Rattle.interval.specs.Ported.{sameOne}
+use Rattle.interval.proofs.Calls.{differ}
 use Rattle.interval.proofs.ported.same_one.Statement.{statement}
 use Rattle.interval.proofs.ported.same_one.Tie as tie
 
