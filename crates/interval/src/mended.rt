@@ -96,12 +96,14 @@ fn range_of(low: Exact, high: Exact) -> IntervalAnswer
     }
 }
 
+// The least range of all opposites.
 pub fn neg(a: Interval) -> IntervalAnswer
     ensures { λ r. ⌜ told r ≡ mended.neg w64 a ⌝ }
 {
     strict(a, a, range_of(exact_neg(a.max), exact_neg(a.min)))
 }
 
+// The least range of all sums.
 pub fn add(a: Interval, b: Interval) -> IntervalAnswer
     ensures { λ r. ⌜ told r ≡ mended.add w64 a b ⌝ }
 {
@@ -112,6 +114,7 @@ pub fn add(a: Interval, b: Interval) -> IntervalAnswer
     )
 }
 
+// The least range of all differences.
 pub fn sub(a: Interval, b: Interval) -> IntervalAnswer
     ensures { λ r. ⌜ told r ≡ mended.sub w64 a b ⌝ }
 {
@@ -145,6 +148,7 @@ fn corner_range(p: Exact, q: Exact, r: Exact, s: Exact) -> IntervalAnswer
     )
 }
 
+// The least range of all products.
 pub fn mul(a: Interval, b: Interval) -> IntervalAnswer
     ensures { λ r. ⌜ told r ≡ mended.mul w64 a b ⌝ }
 {
@@ -170,6 +174,7 @@ fn quotients(b: Interval) -> Interval
     }
 }
 
+// Every number, or none by [0, 0].
 pub fn div(a: Interval, b: Interval) -> IntervalAnswer
     ensures { λ r. ⌜ told r ≡ mended.div w64 a b ⌝ }
 {
@@ -226,6 +231,7 @@ fn rem_of(a: Interval, b: Interval) -> IntervalAnswer
     IntervalAnswer::Is(rem_range(a, b))
 }
 
+// The remainders, by document 01's rule with the greatest magnitude in b.
 pub fn rem(a: Interval, b: Interval) -> IntervalAnswer
     ensures { λ r. ⌜ told r ≡ mended.rem w64 a b ⌝ }
 {
@@ -249,30 +255,35 @@ fn equal_never(a: Interval, b: Interval) -> bool
     a.max < b.min || b.max < a.min
 }
 
+// Whether every pair is equal, or none.
 pub fn equals(a: Interval, b: Interval) -> IntervalAnswer
     ensures { λ r. ⌜ told r ≡ mended.eq w64 a b ⌝ }
 {
     lenient(a, b, verdict(equal_ever(a, b), equal_never(a, b)))
 }
 
+// Whether the left number is less in every pair, or in none.
 pub fn less(a: Interval, b: Interval) -> IntervalAnswer
     ensures { λ r. ⌜ told r ≡ mended.lt w64 a b ⌝ }
 {
     lenient(a, b, verdict(a.max < b.min, b.max <= a.min))
 }
 
+// Whether the left number is greater in every pair, or in none.
 pub fn greater(a: Interval, b: Interval) -> IntervalAnswer
     ensures { λ r. ⌜ told r ≡ mended.gt w64 a b ⌝ }
 {
     less(b, a)
 }
 
+// Whether the left number is at most the right one in every pair, or in none.
 pub fn less_or_equal(a: Interval, b: Interval) -> IntervalAnswer
     ensures { λ r. ⌜ told r ≡ mended.le w64 a b ⌝ }
 {
     lenient(a, b, verdict(a.max <= b.min, b.max < a.min))
 }
 
+// Whether the left number is at least the right one in every pair, or in none.
 pub fn greater_or_equal(a: Interval, b: Interval) -> IntervalAnswer
     ensures { λ r. ⌜ told r ≡ mended.ge w64 a b ⌝ }
 {
