@@ -45,6 +45,10 @@ pub has-number : {w : Width} {i : Interval} → Canonical w i → NotBottom w i 
 has-number (some p) f = p
 has-number {w} none f = unlike w f
 
+-- what has a number is not bottom
+pub not-bottom : {w : Width} {i : Interval} → Proper w i → isBottom w i ≡ false
+not-bottom {w} {i} p = is-false (bottom-test w i) (λ e. absurd (omega (ints, signs w)))
+
 -- both its ends are numbers of the width
 pub in-width : {w : Width} {i : Interval} → Canonical w i → (least w ≤ℤ i .min) × (i .min ≤ℤ greatest w) × (least w ≤ℤ i .max) × (i .max ≤ℤ greatest w)
 in-width (some p) = (p .above, omega ints, omega ints, p .below)

@@ -21,7 +21,7 @@ use Rattle.interval.specs.Set.{Interval, _⋯_, _∈_, _∉_, _⊆_, top
 use Rattle.interval.specs.Answer.{Answer, is, refused, told, pairTold}
 use Rattle.interval.specs.Mended.{ranged, strict, lenient, neg, add, sub, mul, div, rem, remSingle, ltV, leV, eqV, lt, gt, le, ge, eq, narrow, join}
 use Rattle.interval.proofs.Test.{in-test, only-test}
-use Rattle.interval.proofs.Ends.{Least, add-least, sub-least, mul-least, neg-least}
+use Rattle.interval.proofs.Ends.{only, Least, add-least, sub-least, mul-least, neg-least}
 use Rattle.interval.proofs.Truth as T
 use Rattle.interval.proofs.Truth.{Verdict}
 use Rattle.interval.proofs.Rem.{rem-covers, proper}
@@ -124,9 +124,6 @@ pub data Covers (w : Width) (f : ℤ → ℤ → ℤ) (a b : Interval) : Answer 
   refusing : {n : ℕ} → Covers w f a b (refused n)
 
 module _ {w : Width} {a b : Interval} (p : Proper w a) (q : Proper w b) where
-  same : {i : Interval} {x : ℤ} → i .min ≡ i .max → x ∈ i → x ≡ i .min
-  same e h = omega ints
-
   zero : {y : ℤ} → (b .min ≡ pos 0) × (b .max ≡ pos 0) → y ∈ b → y ≡ pos 0
   zero h t = omega ints
 
@@ -142,7 +139,7 @@ module _ {w : Width} {a b : Interval} (p : Proper w a) (q : Proper w b) where
       C = Covers w remZ a b
 
       alone : a .min ≡ a .max → b .min ≡ b .max → C (remSingle w (a .min) (b .min))
-      alone d e = branch (in-test _ (top w)) C (λ _. covering (λ x y s t nz f. rw (same d s, same e t) (record { low = omega ints; high = omega ints }))) (λ _. refusing)
+      alone d e = branch (in-test _ (top w)) C (λ _. covering (λ x y s t nz f. rw (only d s, only e t) (record { low = omega ints; high = omega ints }))) (λ _. refusing)
 
   pub div-cover : Covers w quotZ a b (div w a b)
   unfolding div
