@@ -5,3 +5,7 @@ pub mod Remainders
 pub mod Sums
 pub mod Residues
 pub mod Classes
+pub mod Sets
+pub mod Results
+pub mod Lattice
+pub mod Arithmetic

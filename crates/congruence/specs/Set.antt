@@ -24,7 +24,7 @@ unfoldable pub bottom? : Congruence → Bool
 bottom? a = (a .constant ≟ pos 1) && (a .modulus ≟ pos 1)
 
 -- x is one of the numbers that a stands for
-infix 4 _∈_
+infix 4 _∈_ _⊆_
 pub record _∈_ (x : ℤ) (a : Congruence) : Type 0 where
   pub some : bottom? a ≡ false
   pub class : Cong (natAbs (a .modulus)) x (a .constant)
@@ -47,7 +47,12 @@ form a = pick (bottom? a) bottom (cong (floorRem (a .constant) (a .modulus)) (a 
 unfoldable pub singles? : Congruence → Congruence → Bool
 singles? a b = (a .modulus ≟ pos 0) && (b .modulus ≟ pos 0)
 
--- both its numbers are of the width
-pub record Fit (w : Width) (a : Congruence) : Type 0 where
-  pub constant : SFits w (a .constant)
-  pub modulus : SFits w (a .modulus)
+-- every number of a is one of b
+abbrev pub _⊆_ : Congruence → Congruence → Type 0
+a ⊆ b = (x : ℤ) → x ∈ a → x ∈ b
+
+-- a canonical value of the width, which the mended operations take and give
+pub record Proper (w : Width) (a : Congruence) : Type 0 where
+  pub canonical : Canonical a
+  pub constant-fits : SFits w (a .constant)
+  pub modulus-fits : SFits w (a .modulus)
