@@ -1,35 +1,32 @@
 -- The mended arithmetic: sums, differences and negations are exact, products and quotients cover; all answers are proper.
 use mathlib.Core.Path.{_≡_, refl, sym, ap, ap₂, _∙_, subst}
-use mathlib.Core.Bool.{Bool, true, false, _&&_, _||_}
-use mathlib.Core.Logic.{_≢_, _↔_, _⊎_, inl, inr}
-use Prim.Native.Nat.{ℕ, zero, suc, _*_, _≤_, _<_}
+use mathlib.Core.Bool.{false}
+use mathlib.Core.Logic.{_≢_, _⊎_}
+use Prim.Native.Nat.{ℕ, zero, suc}
 use native.Mathlib.Omega.{arith}
 use native.Mathlib.Nat.{mul-comm}
-use lib.IntN.{ℤ, pos, negsuc, negℤ, natAbs, _+ℤ_, _-ℤ_, _*ℤ_, zero-*ℤ}
-use lib.Signed.{_≤ℤ_, _<ℤ_, quotZ, remZ}
+use lib.IntN.{ℤ, pos, negℤ, natAbs, _+ℤ_, _-ℤ_, _*ℤ_, zero-*ℤ}
 use mir.Syntax.{Width}
 use mir.Val.{SFits}
 use Rattle.whole.specs.Choice.{pick}
-use Rattle.whole.specs.Test.{_≟_}
-use Rattle.whole.specs.Whole.{_⊖_}
 use Rattle.whole.specs.Range.{fits?}
 use Rattle.whole.specs.Divides.{_∣ℤ_, gcd, Cong, floorRem}
 use Rattle.whole.specs.Exact.{exactly}
 use Rattle.whole.specs.declared.Exact.{Exact}
 use Rattle.whole.specs.declared.Exact.the-variants as exact
-use Rattle.whole.proofs.Linear.{ints, wholes, read, abs}
+use Rattle.whole.proofs.Linear.{ints, wholes, read}
 use Rattle.whole.proofs.Fits.{zero-fits}
 use Rattle.whole.proofs.Ring.{ring, natAbs-*ℤ, natAbs-zero}
-use Rattle.whole.proofs.Decides.{eq-test, both, either, branch, is-true, is-false, yes, no, fits-test, is-fit}
+use Rattle.whole.proofs.Decides.{Decides, eq-test, both, either, branch, is-false, yes, fits-test, is-fit}
 use Rattle.whole.proofs.Divides.{∣-trans, zero-∣}
 use Rattle.whole.proofs.CommonDivisor.{is-gcd, gcd-left, gcd-right, gcd-n-0}
 use Rattle.whole.proofs.Congruence.{∣-natAbs, Cong-+, Cong-neg, Cong-*}
 use Rattle.congruence.specs.declared.Congruence.{Congruence}
 use Rattle.congruence.specs.Set.{cong, top, bottom, bottom?, _∈_, singles?, Proper}
-use Rattle.congruence.specs.Numbers.{gcdThen, absThen, formula, divides?}
+use Rattle.congruence.specs.Numbers.{gcdThen, formula}
 use Rattle.congruence.specs.Mended.{resultOf, exactOf, negative, sum, difference, over, product, beside}
 use Rattle.congruence.proofs.Cases.{found-is, found-fits, not-found}
-use Rattle.congruence.proofs.Sets.{clash, bottom-test, none, all, own, single-is, reduced-in, reduced-proper, canonical-modulus, top-proper, bottom-proper}
+use Rattle.congruence.proofs.Sets.{clash, bottom-test, none, all, single-is, reduced-in, reduced-proper, canonical-modulus, top-proper, bottom-proper}
 use Rattle.congruence.proofs.Results.{exact-in, exact-out, exact-over, exact-proper}
 use Rattle.congruence.proofs.Lattice.{steps, beside-3, beside-some, beside-proper, divisor-fits}
 
@@ -50,11 +47,17 @@ module _ (a b : Congruence) where
 
   -- it is 0 for two single numbers only
   pub gcd-zero : g ≡ 0 → (a .modulus ≡ pos 0) × (b .modulus ≡ pos 0)
-  gcd-zero e = (natAbs-zero (a .modulus) (none-of (natAbs (a .modulus)) (subst (λ t. pos t ∣ℤ pos (natAbs (a .modulus))) e (gcd-left (natAbs (a .modulus)) (natAbs (b .modulus))))),
-    natAbs-zero (b .modulus) (none-of (natAbs (b .modulus)) (subst (λ t. pos t ∣ℤ pos (natAbs (b .modulus))) e (gcd-right (natAbs (a .modulus)) (natAbs (b .modulus))))))
+  gcd-zero e = (
+    natAbs-zero (a .modulus) (none-of (natAbs (a .modulus)) (subst (λ t. pos t ∣ℤ pos (natAbs (a .modulus))) e (gcd-left (natAbs (a .modulus)) (natAbs (b .modulus))))),
+    natAbs-zero (b .modulus) (none-of (natAbs (b .modulus)) (subst (λ t. pos t ∣ℤ pos (natAbs (b .modulus))) e (gcd-right (natAbs (a .modulus)) (natAbs (b .modulus))))),
+  )
     where
       none-of : (k : ℕ) → pos 0 ∣ℤ pos k → k ≡ 0
       none-of k d = let z : pos k ≡ pos 0 = zero-∣ d in omega ints
+
+pub singles-test : (a b : Congruence) → Decides ((a .modulus ≡ pos 0) × (b .modulus ≡ pos 0)) ((a .modulus ≢ pos 0) ⊎ (b .modulus ≢ pos 0)) (singles? a b)
+unfolding singles?
+singles-test a b = both (eq-test (a .modulus) (pos 0)) (eq-test (b .modulus) (pos 0))
 
 -- ---- sums
 
@@ -193,3 +196,88 @@ module _ (w : Width) (a : Congruence) where
   pub negative-proper : Proper w (negative w a)
   unfolding negative
   negative-proper = branch (bottom-test a) (Proper w) (λ h. bottom-proper w) (λ h. exact-proper w (negℤ (a .constant)) (natAbs (a .modulus)))
+
+-- ---- product
+
+-- two numbers on the way and their gcd
+pub record Combined (w : Width) (x y : Exact) (k : ℤ) : Type 0 where
+  pub left : ℤ
+  pub right : ℤ
+  pub left-is : x ≡ exact.Is left
+  pub right-is : y ≡ exact.Is right
+  pub is : k ≡ pos (gcd (natAbs left) (natAbs right))
+  pub fits : SFits w k
+
+pub combined : (w : Width) (x y : Exact) (k : ℤ) → gcdThen w x y ≡ exact.Is k → Combined w x y k
+unfolding gcdThen
+combined w exact.DoesNotFit y k h = let i : _≡_ {A = ℕ} 0 1 = cc in absurd (omega arith)
+combined w (exact.Is x) exact.DoesNotFit k h = let i : _≡_ {A = ℕ} 0 1 = cc in absurd (omega arith)
+combined w (exact.Is x) (exact.Is y) k h =
+    let e = found-is w (pos (gcd (natAbs x) (natAbs y))) k h in
+    record { left = x; right = y; left-is = refl; right-is = refl; is = e; fits = subst (λ t. SFits w t) (sym e) (yes (fits-test w (pos (gcd (natAbs x) (natAbs y)))) (found-fits w (pos (gcd (natAbs x) (natAbs y))) k h)) }
+
+-- a result of the rules: the class, or what is shown instead
+pub result-cases : (P : Congruence → Type 0) (z g : Exact) (o : Congruence) → (z ≡ exact.DoesNotFit → P o) → (g ≡ exact.DoesNotFit → P o) → ((x k : ℤ) → z ≡ exact.Is x → g ≡ exact.Is k → P (cong (floorRem x k) k)) → P (resultOf z g o)
+unfolding resultOf
+result-cases P exact.DoesNotFit g o f1 f2 f3 = f1 refl
+result-cases P (exact.Is x) exact.DoesNotFit o f1 f2 f3 = f2 refl
+result-cases P (exact.Is x) (exact.Is k) o f1 f2 f3 = f3 x k refl refl
+
+module _ (w : Width) (a b : Congruence) where
+  abbrev pub D : ℕ
+  D = gcd (gcd (natAbs (a .modulus *ℤ b .modulus)) (natAbs (a .modulus *ℤ b .constant))) (natAbs (b .modulus *ℤ a .constant))
+
+  pub formula-is : (k : ℤ) → formula w a b ≡ exact.Is k → (k ≡ pos D) × SFits w k
+  unfolding formula
+  formula-is k h =
+      let p = combined w (gcdThen w (exactly w (a .modulus *ℤ b .modulus)) (exactly w (a .modulus *ℤ b .constant))) (exactly w (b .modulus *ℤ a .constant)) k h in
+      let q = combined w (exactly w (a .modulus *ℤ b .modulus)) (exactly w (a .modulus *ℤ b .constant)) (p .left) (p .left-is) in (
+        p .is ∙ ap₂ (λ s t. pos (gcd (natAbs s) (natAbs t)))
+            (q .is ∙ ap₂ (λ s t. pos (gcd (natAbs s) (natAbs t))) (found-is w (a .modulus *ℤ b .modulus) (q .left) (q .left-is)) (found-is w (a .modulus *ℤ b .constant) (q .right) (q .right-is)))
+            (found-is w (b .modulus *ℤ a .constant) (p .right) (p .right-is)),
+        p .fits,
+      )
+
+  pub in-product : (x y : ℤ) → x ∈ a → y ∈ b → Cong D (x *ℤ y) (a .constant *ℤ b .constant)
+  in-product x y h k =
+      let l = gcd-left (gcd (natAbs (a .modulus *ℤ b .modulus)) (natAbs (a .modulus *ℤ b .constant))) (natAbs (b .modulus *ℤ a .constant)) in
+      let d1 : pos D ∣ℤ pos (natAbs (a .modulus *ℤ b .modulus)) = ∣-trans l (gcd-left (natAbs (a .modulus *ℤ b .modulus)) (natAbs (a .modulus *ℤ b .constant))) in
+      let d2 : pos D ∣ℤ pos (natAbs (a .modulus *ℤ b .constant)) = ∣-trans l (gcd-right (natAbs (a .modulus *ℤ b .modulus)) (natAbs (a .modulus *ℤ b .constant))) in
+      let d3 : pos D ∣ℤ pos (natAbs (b .modulus *ℤ a .constant)) = gcd-right (gcd (natAbs (a .modulus *ℤ b .modulus)) (natAbs (a .modulus *ℤ b .constant))) (natAbs (b .modulus *ℤ a .constant)) in
+      Cong-* D x (a .constant) y (b .constant)
+      (subst (λ t. pos D ∣ℤ pos t) (natAbs-*ℤ (a .modulus) (b .modulus)) d1)
+      (∣-natAbs (a .constant *ℤ pos (natAbs (b .modulus))) (subst (λ t. pos D ∣ℤ pos t) (turned (b .modulus) (a .constant)) d3))
+      (∣-natAbs (b .constant *ℤ pos (natAbs (a .modulus))) (subst (λ t. pos D ∣ℤ pos t) (turned (a .modulus) (b .constant)) d2))
+      (h .class) (k .class)
+    where
+      turned : (m e : ℤ) → natAbs (m *ℤ e) ≡ natAbs (e *ℤ pos (natAbs m))
+      turned m e = natAbs-*ℤ m e ∙ (mul-comm (natAbs m) (natAbs e) ∙ sym (natAbs-*ℤ e (pos (natAbs m))))
+
+  -- of two single numbers the formula is 0
+  formula-zero : a .modulus ≡ pos 0 → b .modulus ≡ pos 0 → formula w a b ≡ exact.Is (pos 0)
+  unfolding formula gcdThen exactly
+  formula-zero i j = rw (i, j, zero-*ℤ (pos 0), zero-*ℤ (b .constant), zero-*ℤ (a .constant), is-fit {w = w} zero-fits, gcd-n-0 0, is-fit {w = w} zero-fits, gcd-n-0 0, is-fit {w = w} zero-fits) refl
+
+  pub product-covers : (x y : ℤ) → SFits w (x *ℤ y) → x ∈ a → y ∈ b → (x *ℤ y) ∈ product w a b
+  unfolding product over
+  product-covers x y f p q = subst (λ t. (x *ℤ y) ∈ t) (sym (beside-3 w a b _ (p .some) (q .some)))
+      (result-cases (λ t. (x *ℤ y) ∈ t) (exactly w (a .constant *ℤ b .constant)) (formula w a b) _
+      (λ h. instead (λ i j. clash (sym (is-fit (subst (λ t. SFits w t) (ap₂ _*ℤ_ (single-is a x i p) (single-is b y j q)) f)) ∙ not-found w (a .constant *ℤ b .constant) h)))
+      (λ h. instead (λ i j. let z : _≡_ {A = ℕ} 0 1 = cc (formula-zero i j) in omega arith))
+      (λ u k h i. let e = formula-is k i .0 in
+      subst (λ t. (x *ℤ y) ∈ cong (floorRem u t) t) (sym e) (reduced-in u D (x *ℤ y) (subst (λ t. Cong D (x *ℤ y) t) (sym (found-is w (a .constant *ℤ b .constant) u h)) (in-product x y p q)))))
+    where
+      instead : (a .modulus ≡ pos 0 → b .modulus ≡ pos 0 → ⊥) → (x *ℤ y) ∈ pick (singles? a b) bottom top
+      instead n = branch (singles-test a b) (λ t. (x *ℤ y) ∈ t) (λ s. absurd (n (s .0) (s .1))) (λ s. all (x *ℤ y))
+
+  pub product-proper : Proper w (product w a b)
+  unfolding product over
+  product-proper = beside-proper w a b _ (λ na nb.
+      result-cases (Proper w) (exactly w (a .constant *ℤ b .constant)) (formula w a b) _ (λ h. instead) (λ h. instead)
+      (λ u k h i.
+      let r = formula-is k i in
+      let e = found-is w (a .constant *ℤ b .constant) u h in
+      subst (λ t. Proper w (cong (floorRem u t) t)) (sym (r .0)) (reduced-proper w u D (λ z. subst (λ t. SFits w t) (sym e) (yes (fits-test w (a .constant *ℤ b .constant)) (found-fits w (a .constant *ℤ b .constant) u h))) (subst (λ t. SFits w t) (r .0) (r .1)))))
+    where
+      instead : Proper w (pick (singles? a b) bottom top)
+      instead = branch (singles-test a b) (Proper w) (λ s. bottom-proper w) (λ s. top-proper w)

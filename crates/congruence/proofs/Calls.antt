@@ -16,7 +16,6 @@ use Rattle.whole.specs.Divides.{gcd, floorRem}
 use Rattle.whole.specs.Exact.{exactly}
 use Rattle.whole.specs.declared.Exact.{Exact}
 use Rattle.whole.specs.declared.Exact.the-variants as exact
-use Rattle.whole.proofs.Calls.{called}
 use Rattle.congruence.specs.Numbers.{gcdThen, absThen, alike?, formula}
 use Rattle.congruence.specs.Set.{cong}
 use Rattle.congruence.specs.Ported as ported

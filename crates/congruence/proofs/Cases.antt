@@ -11,8 +11,6 @@ use Rattle.whole.specs.Choice.{pick}
 use Rattle.whole.specs.Range.{fits?}
 use Rattle.whole.proofs.Linear.{ints}
 use mir.Syntax.{Width, w64}
-use mir.Val.{SFits, toZ, ofZ}
-use mir.Facts.{toZ-ofZ}
 use Rattle.whole.specs.Test.{_≟_}
 use Rattle.whole.specs.Divides.{gcd, floorRem}
 use Rattle.whole.specs.Exact.{exactly}

@@ -2,12 +2,10 @@
 use mathlib.Core.Path.{_≡_, refl, sym, ap, _∙_, subst}
 use mathlib.Core.Bool.{Bool, true, false, _&&_}
 use mathlib.Core.Logic.{_≢_, _⊎_, inl, inr}
-use Prim.Native.Nat.{ℕ, zero, suc, _+_, _*_, _/_, _%_, _≤_, _<_}
+use Prim.Native.Nat.{ℕ, zero, suc, _*_, _/_, _%_, _≤_, _<_}
 use native.Mathlib.Omega.{arith}
-use native.Mathlib.Nat.{div-add-mod', pos-of-ne-zero}
-use borrow.Author.Tests.{eq-eqb}
-use lib.IntN.{ℤ, pos, negsuc, natAbs, _-ℤ_, _*ℤ_}
-use lib.Signed.{_≤ℤ_, _<ℤ_}
+use native.Mathlib.Nat.{div-add-mod'}
+use lib.IntN.{ℤ, pos, negsuc, natAbs, _-ℤ_}
 use lib.Pow.{pow-pos}
 use mir.Syntax.{Width}
 use mir.Val.{hbits}
@@ -19,7 +17,7 @@ use Rattle.whole.proofs.Linear.{ints, abs}
 use Rattle.whole.proofs.Divides.{∣-trans, ∣-neg, zero-∣, ∣-≤}
 use Rattle.whole.proofs.CommonDivisor.{exact, gcd-left, lcm-left, lcm-right, lcm-least}
 use Rattle.whole.proofs.Congruence.{∣-natAbs, Cong-sym, Cong-trans, meet-needs, meet-at, meet-left, meet-right}
-use Rattle.whole.proofs.Decides.{Decides, eqb-test, both, yes, no, is-true, is-false, weaken}
+use Rattle.whole.proofs.Decides.{Decides, eqb-test, both, yes, is-true, is-false, weaken}
 use Rattle.whole.proofs.Floor.{floor-low, floor-high, floor-class, same-residue}
 use Rattle.congruence.specs.declared.Congruence.{Congruence}
 use Rattle.congruence.specs.Set.{cong, bottom}

@@ -1,32 +1,29 @@
 -- The mended lattice: inclusion, what is disjoint, the join and the meet, by what the values stand for.
 use mathlib.Core.Path.{_≡_, refl, sym, ap, ap₂, _∙_, subst}
-use mathlib.Core.Bool.{Bool, true, false, not, _&&_, _||_}
+use mathlib.Core.Bool.{Bool, true, false}
 use mathlib.Core.Logic.{_≢_, _⊎_, inl, inr}
 use Prim.Native.Nat.{ℕ, zero, suc, _≤_, _<_}
 use native.Mathlib.Omega.{arith}
-use lib.IntN.{ℤ, pos, negsuc, natAbs, _+ℤ_, _-ℤ_, _*ℤ_}
-use lib.Signed.{_≤ℤ_, _<ℤ_}
+use lib.IntN.{ℤ, pos, natAbs, _+ℤ_, _-ℤ_, _*ℤ_}
 use mir.Syntax.{Width}
 use mir.Val.{SFits}
 use Rattle.whole.specs.Choice.{pick}
-use Rattle.whole.specs.Test.{_≟_}
-use Rattle.whole.specs.Whole.{_⊖_}
 use Rattle.whole.specs.Range.{fits?}
 use Rattle.whole.specs.Divides.{_∣ℤ_, gcd, lcm, Cong}
 use Rattle.whole.proofs.Linear.{ints, wholes, read, abs, from-≢}
 use Rattle.whole.proofs.Fits.{machine, range}
 use Rattle.whole.proofs.Decides.{Decides, eq-test, both, either, isn't, weaken, branch, is-true, is-false, yes, no, fits-test, is-fit}
-use Rattle.whole.proofs.Divides.{∣-refl, ∣-trans, ∣-antisym, ∣-≤}
+use Rattle.whole.proofs.Divides.{∣-trans, ∣-antisym, ∣-≤}
 use Rattle.whole.proofs.CommonDivisor.{gcd-left, gcd-right, gcd-n-0, gcd-0-n}
 use Rattle.whole.proofs.Ring.{natAbs-zero}
-use Rattle.whole.proofs.Congruence.{∣-at, ∣-natAbs, Cong-refl, Cong-sym, Cong-trans, join-left, join-right, join-best, meet-needs, meet-at, meet-left, meet-right, meet-class}
+use Rattle.whole.proofs.Congruence.{∣-at, ∣-natAbs, Cong-sym, Cong-trans, join-left, join-right, join-best, meet-needs, meet-at, meet-left, meet-right, meet-class}
 use Rattle.whole.proofs.Floor.{same-residue}
 use Rattle.congruence.specs.declared.Congruence.{Congruence}
 use Rattle.congruence.specs.Set.{cong, top, bottom, bottom?, _∈_, _⊆_, Canonical, single, nothing, reduced, Proper}
 use Rattle.congruence.specs.Numbers.{alike?}
 use Rattle.congruence.specs.Mended.{classOf, has?, apart?, inside?, joint, overlap, common, beside}
-use Rattle.congruence.proofs.Classes.{alike-test, to-abs, overlap-none, overlap-zero, overlap-is, over-some, shared, shared-below, shared-left, shared-right, lcm-pos}
-use Rattle.congruence.proofs.Sets.{clash, bottom-test, none, all, own, equal-at-0, single-is, reduced-in, canonical-modulus, canonical-positive, top-proper, bottom-proper}
+use Rattle.congruence.proofs.Classes.{alike-test, to-abs, overlap-none, overlap-is, shared, shared-below, shared-left, shared-right, lcm-pos}
+use Rattle.congruence.proofs.Sets.{clash, bottom-test, none, own, equal-at-0, single-is, canonical-modulus, bottom-proper}
 use Rattle.congruence.proofs.Results.{class-in, class-out, class-over, class-proper}
 
 -- ---- inclusion
@@ -147,7 +144,6 @@ apart-test a b = weaken there near (either (either (bottom-test a) (bottom-test 
 pub divisor-fits : (w : Width) (k l : ℕ) → l ≢ 0 → pos k ∣ℤ pos l → SFits w (pos l) → SFits w (pos k)
 divisor-fits w k l h d g = let i : k ≤ l = ∣-≤ d (λ u. h (omega ints)) in omega (machine, range g)
 
-
 module _ (w : Width) (a b : Congruence) where
   abbrev pub spread : ℕ
   spread = gcd (gcd (m a b) (n a b)) (natAbs (a .constant -ℤ b .constant))
@@ -196,6 +192,15 @@ module _ (w : Width) (a b : Congruence) where
       go (suc k) l i j g h = divisor-fits w (gcd (gcd (suc k) l) (natAbs (a .constant -ℤ b .constant))) (suc k) (omega arith) (∣-trans (gcd-left (gcd (suc k) l) (natAbs (a .constant -ℤ b .constant))) (gcd-left (suc k) l)) g
       go zero (suc l) i j g h = divisor-fits w (gcd (gcd 0 (suc l)) (natAbs (a .constant -ℤ b .constant))) (suc l) (omega arith) (∣-trans (gcd-left (gcd 0 (suc l)) (natAbs (a .constant -ℤ b .constant))) (gcd-right 0 (suc l))) h
       go zero zero i j g h = subst (λ t. SFits w (pos t)) (sym (ap (λ t. gcd t (natAbs (a .constant -ℤ b .constant))) (gcd-n-0 0) ∙ gcd-0-n (natAbs (a .constant -ℤ b .constant)))) (f (natAbs-zero (a .modulus) i) (natAbs-zero (b .modulus) j))
+
+  pub joint-far : a .modulus ≡ pos 0 → b .modulus ≡ pos 0 → fits? w (pos (natAbs (a .constant -ℤ b .constant))) ≡ false → joint w a b ≡ top
+  joint-far i j f = neither (single-some a i) (single-some b j) ∙ class-over w (a .constant) spread (ap (λ t. fits? w (pos t)) wide ∙ f)
+    where
+      single-some : (v : Congruence) → v .modulus ≡ pos 0 → bottom? v ≡ false
+      single-some v e = is-false (bottom-test v) (λ i. let o : v .modulus ≡ pos 1 = ap (λ t. t .modulus) i in omega ints)
+
+      wide : spread ≡ natAbs (a .constant -ℤ b .constant)
+      wide = ap₂ (λ s t. gcd (gcd (natAbs s) (natAbs t)) (natAbs (a .constant -ℤ b .constant))) i j ∙ ap (λ t. gcd t (natAbs (a .constant -ℤ b .constant))) (gcd-n-0 0) ∙ gcd-0-n (natAbs (a .constant -ℤ b .constant))
 
   pub joint-proper : Proper w a → Proper w b → Proper w (joint w a b)
   joint-proper p q = by (bottom? a)

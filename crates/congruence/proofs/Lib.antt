@@ -9,3 +9,7 @@ pub mod Sets
 pub mod Results
 pub mod Lattice
 pub mod Arithmetic
+pub mod Quotients
+pub mod Comparisons
+pub mod Covers
+pub mod Claims

@@ -1,7 +1,6 @@
 -- The quotient and the remainder toward zero by 0, by 1 and by -1, and the magnitude of a difference.
-use mathlib.Core.Path.{_≡_, refl, sym, ap, _∙_}
-use mathlib.Core.Logic.{_≢_}
-use Prim.Native.Nat.{ℕ, zero, suc, _+_, _-_, _%_, _/_, _≤_, _<_}
+use mathlib.Core.Path.{_≡_, ap, _∙_}
+use Prim.Native.Nat.{suc, _+_, _-_, _≤_, _<_}
 use native.Mathlib.Nat.{mod-zero, mod-one, div-zero, div-one}
 use native.Mathlib.Omega.{arith}
 use lib.IntN.{ℤ, pos, negsuc, negℤ, natAbs, _-ℤ_}

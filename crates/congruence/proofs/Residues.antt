@@ -1,18 +1,15 @@
 -- Remainders of natural numbers as congruences: doubling, Euclid's steps with a coefficient, the number of the Chinese remainder.
-use mathlib.Core.Path.{_≡_, refl, sym, ap, _∙_, subst}
+use mathlib.Core.Path.{_≡_, sym, ap, _∙_, subst}
 use mathlib.Core.Logic.{_≢_}
-use Prim.Native.Nat.{ℕ, zero, suc, _+_, _-_, _*_, _/_, _%_, _≤_, _<_}
+use Prim.Native.Nat.{ℕ, zero, suc, _+_, _-_, _*_, _/_, _%_, _<_}
 use native.Mathlib.Omega.{arith}
-use native.Mathlib.Nat.{div-add-mod', mod-lt, add-mul-mod-self-right, mod-eq-of-lt, mul-le-mul-left}
-use lib.IntN.{ℤ, pos, negsuc, negℤ, natAbs, _+ℤ_, _-ℤ_, _*ℤ_, zero-*ℤ}
-use Rattle.whole.specs.Whole.{up, dn, _⊖_}
+use native.Mathlib.Nat.{div-add-mod', mod-lt, add-mul-mod-self-right, mul-le-mul-left}
+use lib.IntN.{ℤ, pos, negsuc, negℤ, _+ℤ_, _-ℤ_, _*ℤ_, zero-*ℤ}
 use Rattle.whole.specs.Divides.{_∣ℤ_, gcd, lcm, Cong}
-use Rattle.whole.proofs.Linear.{ints, wholes, read, sum, sub, abs}
-use Rattle.whole.proofs.Shapes.{lin}
-use Rattle.whole.proofs.Ring.{ring, -ℤ-*ℤ, *ℤ--ℤ, natAbs-*ℤ, one-*ℤ}
-use Rattle.whole.proofs.Divide.{small-multiple}
-use Rattle.whole.proofs.Divides.{∣-refl, ∣-zero, zero-∣, ∣-trans, ∣-+, ∣--, ∣-*, ∣-neg}
-use Rattle.whole.proofs.CommonDivisor.{is-gcd, gcd-left, gcd-right, gcd-step, gcd-n-0, exact, lcm-right, lcm-is}
+use Rattle.whole.proofs.Linear.{ints, wholes, read, sub}
+use Rattle.whole.proofs.Ring.{ring, *ℤ--ℤ, one-*ℤ}
+use Rattle.whole.proofs.Divides.{∣-refl, zero-∣, ∣-trans, ∣-+, ∣-*}
+use Rattle.whole.proofs.CommonDivisor.{gcd-left, gcd-right, gcd-n-0, exact, lcm-right, lcm-is}
 use Rattle.whole.proofs.Congruence.{∣-at, Cong-refl, Cong-sym, Cong-trans, Cong-+, Cong-neg}
 
 -- a number and its remainder

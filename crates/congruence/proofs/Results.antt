@@ -1,10 +1,8 @@
 -- What the mended rules are made of: the class of a number modulo a natural number, and the exact one, stand for what they should.
-use mathlib.Core.Path.{_≡_, refl, sym, ap, _∙_, subst}
+use mathlib.Core.Path.{_≡_, refl, sym, _∙_, subst}
 use mathlib.Core.Bool.{Bool, true, false}
-use mathlib.Core.Logic.{_≢_, _⊎_, inl, inr}
 use Prim.Native.Nat.{ℕ}
-use lib.Dec.{eqb}
-use lib.IntN.{ℤ, pos, _-ℤ_}
+use lib.IntN.{ℤ, pos}
 use mir.Syntax.{Width}
 use mir.Val.{SFits}
 use Rattle.whole.specs.Choice.{pick}
@@ -12,9 +10,8 @@ use Rattle.whole.specs.Range.{fits?}
 use Rattle.whole.specs.Divides.{Cong, floorRem}
 use Rattle.whole.specs.Exact.{exactly}
 use Rattle.whole.specs.declared.Exact.the-variants as exact
-use Rattle.whole.proofs.Decides.{branch, fits-test, eqb-test, is-fit, is-true, is-false, not-beyond, yes}
-use Rattle.congruence.specs.declared.Congruence.{Congruence}
-use Rattle.congruence.specs.Set.{cong, top, bottom, bottom?, _∈_, Proper}
+use Rattle.whole.proofs.Decides.{branch, fits-test, eqb-test, is-fit, is-true}
+use Rattle.congruence.specs.Set.{cong, top, bottom, _∈_, Proper}
 use Rattle.congruence.specs.Mended.{resultOf, classOf, onlyOf, exactOf}
 use Rattle.congruence.proofs.Sets.{none, all, reduced-in, reduced-out, reduced-proper, top-proper, bottom-proper, single-proper, alone-in, alone-out, at-0-equal, equal-at-0}
 

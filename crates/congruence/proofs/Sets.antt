@@ -1,24 +1,19 @@
 -- What values stand for: the bottom, top, a single number, a reduced class, the canonical form.
 use mathlib.Core.Path.{_≡_, refl, sym, ap, ap₂, _∙_, subst}
-use mathlib.Core.Bool.{Bool, true, false, _&&_, _||_}
-use mathlib.Core.Logic.{_≢_, _↔_, _⊎_, inl, inr}
-use Prim.Native.Nat.{ℕ, zero, suc, _≤_, _<_}
+use mathlib.Core.Bool.{Bool, true, false}
+use mathlib.Core.Logic.{_≢_, _⊎_, inl, inr}
+use Prim.Native.Nat.{ℕ, zero, suc}
 use native.Mathlib.Omega.{arith}
-use lib.IntN.{ℤ, pos, negsuc, natAbs, _+ℤ_, _-ℤ_, _*ℤ_}
+use lib.IntN.{ℤ, pos, negsuc, natAbs, _-ℤ_, _*ℤ_}
 use lib.Signed.{_≤ℤ_, _<ℤ_}
-use lib.Pow.{pow-pos}
 use lib.Dec.{lit<}
 use mir.Syntax.{Width, w8, w16, w32, w64, w128}
-use mir.Val.{SFits, hbits}
-use Rattle.whole.specs.Choice.{pick}
-use Rattle.whole.specs.Test.{_<?_, _≟_}
-use Rattle.whole.specs.Whole.{_⊖_}
-use Rattle.whole.specs.Range.{fits?}
-use Rattle.whole.specs.Divides.{_∣ℤ_, Cong, floorRem}
-use Rattle.whole.proofs.Linear.{ints, wholes, read, abs, sub}
+use mir.Val.{SFits}
+use Rattle.whole.specs.Divides.{Cong, floorRem}
+use Rattle.whole.proofs.Linear.{ints, wholes, read, abs}
 use Rattle.whole.proofs.Fits.{machine, range, zero-fits}
-use Rattle.whole.proofs.Decides.{Decides, holds, fails, eq-test, lt-test, both, either, weaken, is-true, is-false, yes, no, branch}
-use Rattle.whole.proofs.Divides.{∣-refl, ∣-zero, zero-∣}
+use Rattle.whole.proofs.Decides.{Decides, eq-test, lt-test, both, either, weaken, is-true, is-false, yes, branch}
+use Rattle.whole.proofs.Divides.{zero-∣}
 use Rattle.whole.proofs.Congruence.{Cong-refl, Cong-sym, Cong-trans}
 use Rattle.whole.proofs.Floor.{floor-low, floor-high, floor-class, floor-zero, floor-only}
 use Rattle.congruence.specs.declared.Congruence.{Congruence}
@@ -206,3 +201,11 @@ module _ (a : Congruence) where
 
   pub canonical-modulus : Canonical a → pos (natAbs m) ≡ m
   canonical-modulus h = let l = canonical-positive h in omega (ints, abs m)
+
+  pub form-proper : (w : Width) → domain? a ≡ true → SFits w c → SFits w m → Proper w (form a)
+  unfolding form
+  form-proper w h f g = branch (bottom-test a) (Proper w) (λ e. bottom-proper w) (λ n. go m (domain-positive h) g)
+    where
+      go : (k : ℤ) → pos 0 ≤ℤ k → SFits w k → Proper w (cong (floorRem c k) k)
+      go (pos k) l g = reduced-proper w c k (λ e. f) g
+      go (negsuc k) l g = absurd (l .le)

@@ -1,18 +1,16 @@
 -- A sum and a difference modulo m, of two floored remainders: nothing on the way is beyond m.
-use mathlib.Core.Path.{_≡_, sym, _∙_, subst}
+use mathlib.Core.Path.{_≡_, sym, subst}
 use mathlib.Core.Logic.{_≢_}
 use native.Mathlib.Omega.{arith}
-use Prim.Native.Nat.{ℕ}
 use lib.IntN.{ℤ, pos, negℤ, natAbs, _+ℤ_, _-ℤ_}
 use lib.Signed.{_≤ℤ_, _<ℤ_}
 use mir.Syntax.{Width}
 use mir.Val.{SFits}
-use Rattle.whole.specs.Whole.{_⊖_}
 use Rattle.whole.specs.Divides.{Cong, floorRem}
-use Rattle.whole.proofs.Linear.{ints, wholes, read, abs, sum, sub}
+use Rattle.whole.proofs.Linear.{ints, wholes, read, abs, sub}
 use Rattle.whole.proofs.Shapes.{lin}
 use Rattle.whole.proofs.Fits.{machine, range}
-use Rattle.whole.proofs.Divides.{∣-refl, ∣-+, ∣--}
+use Rattle.whole.proofs.Divides.{∣-refl, ∣--}
 use Rattle.whole.proofs.Congruence.{∣-at, Cong-+, Cong-neg, Cong-trans}
 use Rattle.whole.proofs.Floor.{floor-low, floor-high, floor-class, floor-only}
 

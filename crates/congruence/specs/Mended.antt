@@ -1,9 +1,9 @@
 -- The mended operations, at any width: by document 01's rules, on values first made canonical.
-use mathlib.Core.Bool.{Bool, true, false, not, _&&_, _||_}
-use Prim.Native.Nat.{ℕ, zero, suc, _/_, _%_}
+use mathlib.Core.Bool.{Bool, not, _&&_, _||_}
+use Prim.Native.Nat.{ℕ, zero, suc}
 use lib.Dec.{eqb}
 use lib.IntN.{ℤ, pos, negℤ, natAbs, _+ℤ_, _-ℤ_, _*ℤ_}
-use lib.Signed.{quotZ, remZ}
+use lib.Signed.{quotZ}
 use mir.Syntax.{Width}
 use Rattle.whole.specs.Choice.{pick}
 use Rattle.whole.specs.Test.{_≤?_, _<?_, _≟_, truth}

@@ -4,7 +4,6 @@ use mathlib.Core.Bool.{Bool, true, false, not, _&&_, _||_}
 use lib.IntN.{ℤ, pos, negℤ, natAbs, _+ℤ_, _-ℤ_, _*ℤ_}
 use lib.Signed.{quotZ, remZ}
 use mir.Syntax.{w64}
-use Prim.Native.Nat.{ℕ}
 use Rattle.whole.specs.Choice.{pick}
 use Rattle.whole.specs.Test.{_<?_, _≟_}
 use Rattle.whole.specs.Divides as divides
