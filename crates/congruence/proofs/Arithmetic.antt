@@ -1,11 +1,12 @@
 -- The mended arithmetic: sums, differences and negations are exact, products and quotients cover; all answers are proper.
 use mathlib.Core.Path.{_≡_, refl, sym, ap, ap₂, _∙_, subst}
-use mathlib.Core.Bool.{false}
-use mathlib.Core.Logic.{_≢_, _⊎_}
+use mathlib.Core.Bool.{Bool, true, false}
+use mathlib.Core.Logic.{_≢_, _⊎_, inl, inr}
 use Prim.Native.Nat.{ℕ, zero, suc}
 use native.Mathlib.Omega.{arith}
 use native.Mathlib.Nat.{mul-comm}
 use lib.IntN.{ℤ, pos, negℤ, natAbs, _+ℤ_, _-ℤ_, _*ℤ_, zero-*ℤ}
+use lib.Signed.{_≤ℤ_}
 use mir.Syntax.{Width}
 use mir.Val.{SFits}
 use Rattle.whole.specs.Choice.{pick}
@@ -14,9 +15,9 @@ use Rattle.whole.specs.Divides.{_∣ℤ_, gcd, Cong, floorRem}
 use Rattle.whole.specs.Exact.{exactly}
 use Rattle.whole.specs.declared.Exact.{Exact}
 use Rattle.whole.specs.declared.Exact.the-variants as exact
-use Rattle.whole.proofs.Linear.{ints, wholes, read}
+use Rattle.whole.proofs.Linear.{ints, wholes, read, abs}
 use Rattle.whole.proofs.Fits.{zero-fits}
-use Rattle.whole.proofs.Ring.{ring, natAbs-*ℤ, natAbs-zero}
+use Rattle.whole.proofs.Ring.{ring, natAbs-*ℤ, natAbs-zero, no-zero, mul-nonneg}
 use Rattle.whole.proofs.Decides.{Decides, eq-test, both, either, branch, is-false, yes, fits-test, is-fit}
 use Rattle.whole.proofs.Divides.{∣-trans, zero-∣}
 use Rattle.whole.proofs.CommonDivisor.{is-gcd, gcd-left, gcd-right, gcd-n-0}
@@ -26,7 +27,7 @@ use Rattle.congruence.specs.Set.{cong, top, bottom, bottom?, _∈_, sing
 use Rattle.congruence.specs.Numbers.{gcdThen, formula}
 use Rattle.congruence.specs.Mended.{resultOf, exactOf, negative, sum, difference, over, product, beside}
 use Rattle.congruence.proofs.Cases.{found-is, found-fits, not-found}
-use Rattle.congruence.proofs.Sets.{clash, bottom-test, none, all, single-is, reduced-in, reduced-proper, canonical-modulus, top-proper, bottom-proper}
+use Rattle.congruence.proofs.Sets.{clash, bottom-test, none, all, single-is, reduced-in, reduced-proper, canonical-modulus, canonical-positive, top-proper, bottom-proper}
 use Rattle.congruence.proofs.Results.{exact-in, exact-out, exact-over, exact-proper}
 use Rattle.congruence.proofs.Lattice.{steps, beside-3, beside-some, beside-proper, divisor-fits}
 
@@ -224,8 +225,11 @@ result-cases P (exact.Is x) exact.DoesNotFit o f1 f2 f3 = f2 refl
 result-cases P (exact.Is x) (exact.Is k) o f1 f2 f3 = f3 x k refl refl
 
 module _ (w : Width) (a b : Congruence) where
+  abbrev first : ℕ
+  first = gcd (natAbs (a .modulus *ℤ b .modulus)) (natAbs (a .modulus *ℤ b .constant))
+
   abbrev pub D : ℕ
-  D = gcd (gcd (natAbs (a .modulus *ℤ b .modulus)) (natAbs (a .modulus *ℤ b .constant))) (natAbs (b .modulus *ℤ a .constant))
+  D = gcd first (natAbs (b .modulus *ℤ a .constant))
 
   pub formula-is : (k : ℤ) → formula w a b ≡ exact.Is k → (k ≡ pos D) × SFits w k
   unfolding formula
@@ -237,6 +241,36 @@ module _ (w : Width) (a b : Congruence) where
             (found-is w (b .modulus *ℤ a .constant) (p .right) (p .right-is)),
         p .fits,
       )
+
+  -- where the products fit the formula is the gcd of all three: of the first two it is beyond the width only if the third product is 0
+  pub formula-of : Proper w a → Proper w b → SFits w (a .modulus *ℤ b .modulus) → SFits w (a .modulus *ℤ b .constant) → SFits w (b .modulus *ℤ a .constant) → formula w a b ≡ exactly w (pos D)
+  unfolding formula gcdThen exactly
+  formula-of p q f g h = rw (is-fit f, is-fit g, is-fit h) (go (fits? w (pos first)) refl)
+    where
+      positive : pos 0 ≤ℤ (a .modulus *ℤ b .modulus)
+      positive = mul-nonneg (a .modulus) (b .modulus) (canonical-positive a (p .canonical)) (canonical-positive b (q .canonical))
+
+      own-abs : pos (natAbs (a .modulus *ℤ b .modulus)) ≡ a .modulus *ℤ b .modulus
+      own-abs = let l = positive in omega (ints, abs (a .modulus *ℤ b .modulus))
+
+      -- if the first gcd is no number of the width, the moduli's product is 0
+      none-first : (k : ℕ) → natAbs (a .modulus *ℤ b .modulus) ≡ k → fits? w (pos first) ≡ false → a .modulus *ℤ b .modulus ≡ pos 0
+      none-first zero i e = natAbs-zero (a .modulus *ℤ b .modulus) i
+      none-first (suc k) i e = absurd (clash (sym (is-fit (divisor-fits w first (natAbs (a .modulus *ℤ b .modulus)) (omega arith)
+          (gcd-left (natAbs (a .modulus *ℤ b .modulus)) (natAbs (a .modulus *ℤ b .constant))) (subst (λ t. SFits w t) (sym own-abs) f))) ∙ e))
+
+      whole : fits? w (pos first) ≡ false → (a .modulus ≡ pos 0) ⊎ (b .modulus ≡ pos 0) → D ≡ first
+      whole e (inl i) = absurd (clash (sym (is-fit {w = w} zero-fits) ∙ (ap (λ t. fits? w (pos t)) (sym zero-gcd) ∙ e)))
+        where
+          zero-gcd : first ≡ 0
+          zero-gcd = ap (λ m. gcd (natAbs (m *ℤ b .modulus)) (natAbs (m *ℤ b .constant))) i
+              ∙ (ap₂ (λ s t. gcd (natAbs s) (natAbs t)) (zero-*ℤ (b .modulus)) (zero-*ℤ (b .constant)) ∙ gcd-n-0 0)
+      whole e (inr j) = ap (λ t. gcd first (natAbs t)) (ap (λ n. n *ℤ a .constant) j ∙ zero-*ℤ (a .constant)) ∙ gcd-n-0 first
+
+      go : (t : Bool) → fits? w (pos first) ≡ t → gcdThen w (pick t (exact.Is (pos first)) exact.DoesNotFit) (exact.Is (b .modulus *ℤ a .constant)) ≡ exactly w (pos D)
+      go true e = refl
+      go false e = let z = none-first (natAbs (a .modulus *ℤ b .modulus)) refl e in
+          rw (whole e (no-zero (a .modulus) (b .modulus) z), e) refl
 
   pub in-product : (x y : ℤ) → x ∈ a → y ∈ b → Cong D (x *ℤ y) (a .constant *ℤ b .constant)
   in-product x y h k =

@@ -20,7 +20,7 @@ use Rattle.congruence.specs.declared.TruthAnswer.the-variants as truths
 use Rattle.congruence.specs.declared.OrderAnswer.the-variants as orders
 use Rattle.congruence.specs.Set.{cong, top, bottom, bottom?, _∈_, _⊆_, domain?, Canonical, form, Proper}
 use Rattle.congruence.specs.Answer.{within, within2, congruenceOf}
-use Rattle.congruence.specs.Numbers.{gcdThen, absThen, alike?, divides?}
+use Rattle.congruence.specs.Numbers.{formula, gcdThen, absThen, alike?, divides?}
 use Rattle.congruence.specs.Mended as mended
 use Rattle.congruence.specs.Ported as ported
 use Rattle.congruence.proofs.Sets.{single-is, form-in, form-out}
@@ -142,6 +142,10 @@ module _ (w : Width) (a b : Congruence) where
   -- covering every result that fits
   pub mul-covers : (x y : ℤ) → SFits w (x *ℤ y) → x ∈ a → y ∈ b → (x *ℤ y) ∈ mended.product w a b
   mul-covers = arithmetic.product-covers w a b
+
+  -- 000's formula for the modulus: where the products fit, it is their gcd, or that this doesn't fit
+  pub mul-formula : Proper w a → Proper w b → SFits w (a .modulus *ℤ b .modulus) → SFits w (a .modulus *ℤ b .constant) → SFits w (b .modulus *ℤ a .constant) → formula w a b ≡ exactly w (pos (arithmetic.D w a b))
+  mul-formula = arithmetic.formula-of w a b
 
   pub div-covers : Proper w a → (x y : ℤ) → y ≢ pos 0 → SFits w (quotZ x y) → x ∈ a → y ∈ b → quotZ x y ∈ mended.quotient w a b
   div-covers = quotients.quotient-covers w a b
