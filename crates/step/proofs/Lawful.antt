@@ -46,16 +46,19 @@ module _ (w : Width) (o : Operator) (s t u : Shown) (f : ValidOperator w o) (ps 
   -- spacing and sign join a range that is fair
   turned : {a : Answered Interval} → Fair w (runOp w o) (s .range) (t .range) (u .range) a →
       Honest (stopping w) o s t u (beside (spacingOp w o (s .range) (s .spacing) (t .spacing) (u .spacing)) (signOp o (s .range) (s .sign) (t .sign) (u .sign)) a)
-  turned (passes g p) = gives-in all (record { range = p; spacing = spacing-proper w (s .range) (s .spacing) (t .spacing) (u .spacing) (ps .spacing) (pt .spacing) (pu .spacing) o f })
+  turned (passes {v = v} g p) = gives-in all (record { range = p; spacing = spacing-proper w (s .range) (s .spacing) (t .spacing) (u .spacing) (ps .spacing) (pt .spacing) (pu .spacing) o f })
     where
-      all : (x y z : ℤ) → InShown s x → InShown t y → InShown u z → (n : ℤ) × (runOp w o x y z ≡ Gives n) × InShown _ n
+      all : (x y z : ℤ) → InShown s x → InShown t y → InShown u z → (n : ℤ) × (runOp w o x y z ≡ Gives n) × InShown (shown v (spacingOp w o (s .range) (s .spacing) (t .spacing) (u .spacing)) (signOp o (s .range) (s .sign) (t .sign) (u .sign))) n
       all x y z a b d =
-          let (n, e, h) = number (g x y z (a .range) (b .range) (d .range)) in
-          (n, e, record {
-            range = h;
-            spacing = spacing-has w (s .range) (s .spacing) (t .spacing) (u .spacing) (ps .spacing) (pt .spacing) (pu .spacing) x y z n (a .range) (a .spacing) (b .spacing) (d .spacing) o e;
-            sign = sign-has w (s .range) (s .sign) (t .sign) (u .sign) x y z n (a .range) (a .sign) (b .sign) (d .sign) o e;
-          })
+          let (n, e, h) = number (g x y z (a .range) (b .range) (d .range)) in (
+            n,
+            e,
+            record {
+              range = h;
+              spacing = spacing-has w (s .range) (s .spacing) (t .spacing) (u .spacing) (ps .spacing) (pt .spacing) (pu .spacing) x y z n (a .range) (a .spacing) (b .spacing) (d .spacing) o e;
+              sign = sign-has w (s .range) (s .sign) (t .sign) (u .sign) x y z n (a .range) (a .sign) (b .sign) (d .sign) o e;
+            },
+          )
   turned (refuses m) = stops-by (record { x = m .x; y = m .y; z = m .z; x-in = m .x-in; y-in = m .y-in; z-in = m .z-in; stop = m .stop })
 
   pub honest : Honest (stopping w) o s t u (showOp w o s t u)
