@@ -1,1 +1,3 @@
 pub mod Demand
+pub mod Fives
+pub mod Walk
