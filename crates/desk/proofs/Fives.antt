@@ -83,11 +83,11 @@ module _ (vs : List Shown) (room₀ : List ℤ) (k : ℕ) (count : length vs ≡
   fives-next room v e h =
       let l : length room ≡ length room₀ = ap length e ∙ omega (arith, length-append (flat vs) (drop (k * 5) room₀), length-drop (k * 5) room₀, size) in
       let d : drop (k * 5 + 5) room ≡ drop ((k + 1) * 5) room₀ =
-        ap (λ t. drop (k * 5 + 5) t) e
-        ∙ ap (λ t. drop (t + 5) (flat vs ++ drop (k * 5) room₀)) (sym size)
-        ∙ drop-append-add (flat vs) (drop (k * 5) room₀) 5
-        ∙ drop-drop 5 (k * 5) room₀
-        ∙ ap (λ t. drop t room₀) (five-more k)
+      ap (λ t. drop (k * 5 + 5) t) e
+      ∙ ap (λ t. drop (t + 5) (flat vs ++ drop (k * 5) room₀)) (sym size)
+      ∙ drop-append-add (flat vs) (drop (k * 5) room₀) 5
+      ∙ drop-drop 5 (k * 5) room₀
+      ∙ ap (λ t. drop t room₀) (five-more k)
       in
       sets-eq (fiveOf v) room (k * 5) (omega arith)
       ∙ ap₂ (λ a b. a ++ fiveOf v ++ b) (ap (λ t. take (k * 5) t) e ∙ take-at (flat vs) (drop (k * 5) room₀) (k * 5) size) d
