@@ -64,6 +64,10 @@ module _ {w : Width} (a b : ℤ) where
 pub eq-no : (w : Width) (a b : ℤ) → (ofZ w a ≡ ofZ w b → ⊥) → (a ≟ b) ≡ false
 eq-no w a b h = unequal (λ e. h (ap (ofZ w) e))
 
+-- at 64 bits, for `search`: it finds no width under a negation
+pub eq-no-64 : (a b : ℤ) → (ofZ w64 a ≡ ofZ w64 b → ⊥) → (a ≟ b) ≡ false
+eq-no-64 = eq-no w64
+
 -- ---- as a fact over ℤ
 module _ {w : Width} {a b : ℤ} (p : SFits w a) (q : SFits w b) where
   pub le-true : leZ (toZ w (ofZ w a)) (toZ w (ofZ w b)) ≡ true → a ≤ℤ b
@@ -118,7 +122,7 @@ was-false {r} {b} e t = sym e ∙ not-was r true t
 pub was-true : {r b : Bool} → r ≡ b → not r ≡ false → b ≡ true
 was-true {r} {b} e t = sym e ∙ not-was r false t
 
-pub ruleset flags = (back, pick-yes, pick-no, lt-flag, le-flag, eq-yes, eq-no, sfits-of, lit<, toZ-ofZ, tt)
+pub ruleset flags = (back, pick-yes, pick-no, lt-flag, le-flag, eq-yes, eq-no-64, sfits-of, lit<, toZ-ofZ, tt)
 
 pub ruleset bools = (lt-is, le-is, eq-is, eq-flag, and-yes, and-no, and-no-2, or-yes, or-yes-2, or-no, flags)
 

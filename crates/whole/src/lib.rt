@@ -6,7 +6,7 @@ ghost use Prim.Native.Nat.{ℕ, _*_};
 ghost use lib.Dec.{leb};
 ghost use lib.IntN.{ℤ, pos, negsuc, negℤ, natAbs, _+ℤ_, _-ℤ_, _*ℤ_};
 ghost use mir.Syntax.{w64};
-ghost use Rattle.whole.specs.Whole.{minℤ, maxℤ, min4, max4};
+ghost use Rattle.whole.specs.Whole.{up, minℤ, maxℤ, min4, max4};
 ghost use Rattle.whole.specs.Range.{fits?, clamp};
 ghost use Rattle.whole.specs.Divides as divides;
 ghost use Rattle.whole.specs.Exact.{exactly};
@@ -60,6 +60,13 @@ pub fn magnitude(x: i64) -> u64
     ensures { λ r. ⌜ r ≡ natAbs x ⌝ }
 {
     if x < 0 { (!x as u64) + 1 } else { x as u64 }
+}
+
+// The number itself, or 0 if it is negative.
+pub fn natural(x: i64) -> u64
+    ensures { λ r. ⌜ r ≡ up x ⌝ }
+{
+    if x < 0 { 0 } else { x as u64 }
 }
 
 // ---- whether a result fits, asked before it is made

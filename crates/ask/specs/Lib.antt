@@ -1,0 +1,4 @@
+pub mod Taken
+pub mod Said
+pub mod Number
+pub mod Order

@@ -1,0 +1,41 @@
+// One line: its first word names the family that answers the rest.
+use text::word;
+
+// A line that is longer is not understood.
+const LONGEST: usize = 32768;
+
+// The families' names, as word::word_at has them.
+const NUMBER: u64 = 0x6e756d626572;
+
+// A name of at most eight bytes has no second number.
+const SHORT: u64 = 0;
+
+// The answer to a question. A family is added here.
+fn say(line: &[u8], out: &mut [u8], made: usize) -> usize {
+    let w = word::word_at(line, 0);
+    let first = w.first;
+    let second = w.second;
+    let at = w.next;
+    match second {
+        SHORT => match first {
+            NUMBER => crate::number::say(line, at, out, made),
+            _ => crate::say::not_understood(out, made),
+        },
+        _ => crate::say::not_understood(out, made),
+    }
+}
+
+// Puts the answer to a line after `made` bytes, with a line end, and answers the place after it.
+pub fn answer(line: &[u8], out: &mut [u8], made: usize) -> usize {
+    if LONGEST < line.len() {
+        return too_long(out, made);
+    }
+    let e = say(line, out, made);
+    crate::say::word(out, e, b"\n")
+}
+
+// The answer to a line that is too long.
+pub fn too_long(out: &mut [u8], made: usize) -> usize {
+    let e = crate::say::not_understood(out, made);
+    crate::say::word(out, e, b"\n")
+}

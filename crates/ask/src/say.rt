@@ -1,0 +1,122 @@
+// Answers: each function puts its text after `made` bytes, and answers the place after it.
+ghost use mathlib.Core.Path.{_≡_};
+ghost use mathlib.Core.List.{[], _∷_};
+ghost use Rattle.refusal.specs.Number.{numberOf};
+ghost use Rattle.text.specs.Ascii.{ascii};
+ghost use Rattle.whole.specs.Choice.{pick};
+ghost use Rattle.text.specs.Decimal.{decimal, digits};
+ghost use Rattle.text.specs.End.{endText};
+ghost use Rattle.text.specs.Hex.{hexText};
+ghost use Rattle.ask.specs.Order.{orderName};
+ghost use Rattle.ask.specs.Said.{placeOf, Says};
+ghost use Rattle.ask.specs.Number.{notUnderstood};
+use refusal::Refusal;
+use text::Put;
+use whole::Order;
+
+// The place after what was put. The output always has room (main.rt).
+fn after(p: Put, made: usize) -> usize
+    ensures { λ r. ⌜ r ≡ placeOf p made ⌝ }
+{
+    match p {
+        Put::Next(e) => e,
+        Put::NoRoom => made,
+    }
+}
+
+pub fn word(out: &mut [u8], made: usize, w: &[u8]) -> usize
+    ensures { λ r. ⌜ Says (now (w .entry) ∷ []) (now (out .entry)) made (now (out .exit)) r ⌝ }
+{
+    after(text::word::put_word(out, made, w), made)
+}
+
+pub fn number(out: &mut [u8], made: usize, n: i64) -> usize
+    ensures { λ r. ⌜ Says (decimal n ∷ []) (now (out .entry)) made (now (out .exit)) r ⌝ }
+{
+    after(text::decimal::put_number(out, made, n), made)
+}
+
+fn natural(out: &mut [u8], made: usize, n: u64) -> usize
+    ensures { λ r. ⌜ Says (digits n ∷ []) (now (out .entry)) made (now (out .exit)) r ⌝ }
+{
+    after(text::decimal::put_natural(out, made, n), made)
+}
+
+pub fn not_understood(out: &mut [u8], made: usize) -> usize
+    ensures { λ r. ⌜ Says notUnderstood (now (out .entry)) made (now (out .exit)) r ⌝ }
+{
+    word(out, made, b"not understood")
+}
+
+pub fn refused(out: &mut [u8], made: usize, why: Refusal) -> usize
+    ensures { λ r. ⌜ Says (ascii "refused by " ∷ (digits (numberOf why) ∷ [])) (now (out .entry)) made (now (out .exit)) r ⌝ }
+{
+    let e = word(out, made, b"refused by ");
+    natural(out, e, why.number() as u64)
+}
+
+pub fn refused_at(out: &mut [u8], made: usize, place: usize, why: Refusal) -> usize
+    ensures { λ r. ⌜ Says (ascii "refused at " ∷ (digits place ∷ (ascii " by " ∷ (digits (numberOf why) ∷ [])))) (now (out .entry)) made (now (out .exit)) r ⌝ }
+{
+    let e = word(out, made, b"refused at ");
+    let p = natural(out, e, place as u64);
+    let q = word(out, p, b" by ");
+    natural(out, q, why.number() as u64)
+}
+
+fn range_end(out: &mut [u8], made: usize, n: i64) -> usize
+    ensures { λ r. ⌜ Says (endText n ∷ []) (now (out .entry)) made (now (out .exit)) r ⌝ }
+{
+    after(text::end::put_end(out, made, n), made)
+}
+
+pub fn range(out: &mut [u8], made: usize, low: i64, high: i64) -> usize
+    ensures { λ r. ⌜ Says (ascii "[" ∷ (endText low ∷ (ascii ", " ∷ (endText high ∷ (ascii "]" ∷ []))))) (now (out .entry)) made (now (out .exit)) r ⌝ }
+{
+    let a = word(out, made, b"[");
+    let b = range_end(out, a, low);
+    let c = word(out, b, b", ");
+    let d = range_end(out, c, high);
+    word(out, d, b"]")
+}
+
+pub fn spacing(out: &mut [u8], made: usize, constant: i64, modulus: i64) -> usize
+    ensures { λ r. ⌜ Says (decimal constant ∷ (ascii " mod " ∷ (decimal modulus ∷ []))) (now (out .entry)) made (now (out .exit)) r ⌝ }
+{
+    let a = number(out, made, constant);
+    let b = word(out, a, b" mod ");
+    number(out, b, modulus)
+}
+
+pub fn none(out: &mut [u8], made: usize) -> usize
+    ensures { λ r. ⌜ Says (ascii "None" ∷ []) (now (out .entry)) made (now (out .exit)) r ⌝ }
+{
+    word(out, made, b"None")
+}
+
+pub fn order(out: &mut [u8], made: usize, o: Order) -> usize
+    ensures { λ r. ⌜ Says (orderName o ∷ []) (now (out .entry)) made (now (out .exit)) r ⌝ }
+{
+    match o {
+        Order::Less => word(out, made, b"Less"),
+        Order::Equal => word(out, made, b"Equal"),
+        Order::Greater => word(out, made, b"Greater"),
+        Order::None => word(out, made, b"None"),
+    }
+}
+
+pub fn truth(out: &mut [u8], made: usize, t: bool) -> usize
+    ensures { λ r. ⌜ Says (pick t (ascii "true") (ascii "false") ∷ []) (now (out .entry)) made (now (out .exit)) r ⌝ }
+{
+    if t {
+        word(out, made, b"true")
+    } else {
+        word(out, made, b"false")
+    }
+}
+
+pub fn bytes(out: &mut [u8], made: usize, b: &[u8]) -> usize
+    ensures { λ r. ⌜ Says (hexText (now (b .entry)) ∷ []) (now (out .entry)) made (now (out .exit)) r ⌝ }
+{
+    after(text::hex::put_hex(out, made, b), made)
+}

@@ -1,0 +1,179 @@
+// Operands of a question: each stands after one space.
+ghost use mathlib.Core.Path.{_≡_};
+ghost use Rattle.text.specs.Word.{firstCode, secondCode};
+ghost use Rattle.ask.specs.Taken.{numberAfter, oneAfter, twoAfter, fourAfter, nameAfter, nextAfter};
+use text::decimal::Got;
+use text::hex::Bytes;
+use text::word::Word;
+
+// A number, and the place after it.
+pub fn number(line: &[u8], at: usize) -> Got
+    ensures { λ r. ⌜ r ≡ numberAfter (now (line .entry)) at ⌝ }
+{
+    if line.len() <= at {
+        return Got::Nothing;
+    }
+    if line[at] == b' ' {
+        text::decimal::get_number(line, at + 1)
+    } else {
+        Got::Nothing
+    }
+}
+
+// One number that ends the line.
+pub enum Single {
+    Is(i64),
+    Not,
+}
+
+pub fn one(line: &[u8], at: usize) -> Single
+    ensures { λ r. ⌜ r ≡ oneAfter (now (line .entry)) at ⌝ }
+{
+    let Got::Number(a, p) = number(line, at) else {
+        return Single::Not;
+    };
+    if p == line.len() {
+        Single::Is(a)
+    } else {
+        Single::Not
+    }
+}
+
+// Two numbers that end the line.
+pub enum Pair {
+    Are(i64, i64),
+    Not,
+}
+
+pub fn two(line: &[u8], at: usize) -> Pair
+    ensures { λ r. ⌜ r ≡ twoAfter (now (line .entry)) at ⌝ }
+{
+    let Got::Number(a, p) = number(line, at) else {
+        return Pair::Not;
+    };
+    let Got::Number(b, q) = number(line, p) else {
+        return Pair::Not;
+    };
+    if q == line.len() {
+        Pair::Are(a, b)
+    } else {
+        Pair::Not
+    }
+}
+
+// Four numbers that end the line.
+pub enum Quad {
+    Are(i64, i64, i64, i64),
+    Not,
+}
+
+pub fn four(line: &[u8], at: usize) -> Quad
+    ensures { λ r. ⌜ r ≡ fourAfter (now (line .entry)) at ⌝ }
+{
+    let Got::Number(a, p) = number(line, at) else {
+        return Quad::Not;
+    };
+    let Got::Number(b, q) = number(line, p) else {
+        return Quad::Not;
+    };
+    match two(line, q) {
+        Pair::Are(c, d) => Quad::Are(a, b, c, d),
+        Pair::Not => Quad::Not,
+    }
+}
+
+// Numbers to the end of the line, stored in the lent room.
+pub enum Many {
+    // How many they are.
+    Are(usize),
+    // Something else stands there, or there are more than the room has places for.
+    Not,
+}
+
+pub fn numbers(line: &[u8], at: usize, room: &mut [i64]) -> Many {
+    let mut i = at;
+    let mut n: usize = 0;
+    let r = loop {
+        if i == line.len() {
+            break Many::Are(n);
+        }
+        if room.len() <= n {
+            break Many::Not;
+        }
+        match number(line, i) {
+            Got::Number(v, p) => {
+                room[n] = v;
+                n = n + 1;
+                i = p;
+            }
+            Got::Nothing => {
+                break Many::Not;
+            }
+        }
+    };
+    r
+}
+
+// Bytes in hexadecimal, or `-` for none, stored in the lent room.
+pub enum HexBytes {
+    // How many they are, and the place after them.
+    Are(usize, usize),
+    // There are none, or more than the room has places for.
+    Not,
+}
+
+pub fn bytes(line: &[u8], at: usize, room: &mut [u8]) -> HexBytes {
+    if line.len() <= at {
+        return HexBytes::Not;
+    }
+    if line[at] == b' ' {
+        bytes_at(line, at + 1, room)
+    } else {
+        HexBytes::Not
+    }
+}
+
+fn bytes_at(line: &[u8], at: usize, room: &mut [u8]) -> HexBytes {
+    if line.len() <= at {
+        return HexBytes::Not;
+    }
+    if line[at] == b'-' {
+        return HexBytes::Are(0, at + 1);
+    }
+    match text::hex::get_hex(line, at, room) {
+        Bytes::Are(n, next) => some_bytes(n, next),
+        Bytes::NoRoom => HexBytes::Not,
+    }
+}
+
+fn some_bytes(n: usize, next: usize) -> HexBytes {
+    if n == 0 {
+        HexBytes::Not
+    } else {
+        HexBytes::Are(n, next)
+    }
+}
+
+// A name, as text::word has it; both its numbers are 0 if there is none.
+pub fn name(line: &[u8], at: usize) -> Word
+    ensures { λ r. ⌜ (r .next ≡ nextAfter (now (line .entry)) at) × (r .first ≡ firstCode (nameAfter (now (line .entry)) at)) × (r .second ≡ secondCode (nameAfter (now (line .entry)) at)) ⌝ }
+{
+    if line.len() <= at {
+        return nameless(at);
+    }
+    if line[at] == b' ' {
+        text::word::word_at(line, at + 1)
+    } else {
+        nameless(at)
+    }
+}
+
+fn nameless(at: usize) -> Word
+    ensures { λ r. ⌜ (r .next ≡ at) × (r .first ≡ 0) × (r .second ≡ 0) ⌝ }
+{
+    Word {
+        first: 0,
+        second: 0,
+        next: at,
+    }
+}

@@ -1,0 +1,51 @@
+-- The canonical intervals: those with a number, and bottom, which has none.
+use mathlib.Core.Path.{_≡_, refl}
+use mathlib.Core.Logic.{_≢_, _⊎_, inl, inr}
+use mathlib.Core.Bool.{Bool, true, false}
+use lib.IntN.{ℤ, pos}
+use lib.Signed.{_≤ℤ_, _<ℤ_}
+use mir.Syntax.{Width}
+use Rattle.whole.specs.Range.{least, greatest}
+use Rattle.whole.proofs.Linear.{ints}
+use Rattle.whole.proofs.Decides.{Decides, both, lt-test, eq-test, is-true, is-false}
+use Rattle.interval.specs.Set.{Interval, _∈_, bottom, isBottom, empty?, canonical?, Proper, Canonical, some, none}
+use Rattle.interval.proofs.Rem.{signs}
+
+-- an interval with a number is not empty
+pub full : {w : Width} {a : Interval} → Proper w a → empty? a ≡ false
+full {a} p = is-false (lt-test (a .max) (a .min)) (λ h. omega ints)
+
+module _ (w : Width) where
+  abbrev pub IsBottom : Interval → Type 0
+  IsBottom i = (i .min ≡ greatest w) × (i .max ≡ least w)
+
+  abbrev pub NotBottom : Interval → Type 0
+  NotBottom i = (i .min ≢ greatest w) ⊎ (i .max ≢ least w)
+
+  pub bottom-test : (i : Interval) → Decides (IsBottom i) (NotBottom i) (isBottom w i)
+  bottom-test i = both (eq-test (i .min) (greatest w)) (eq-test (i .max) (least w))
+
+  pub unlike : {A : Type 0} → NotBottom (bottom w) → A
+  unlike (inl f) = absurd (f refl)
+  unlike (inr f) = absurd (f refl)
+
+  -- bottom stands for nothing
+  pub bottom-empty : least w <ℤ greatest w
+  bottom-empty = omega (ints, signs w)
+
+  pub nothing : {x : ℤ} → x ∈ bottom w → ⊥
+  nothing h = omega (ints, signs w)
+
+pub canonical-is : {w : Width} {i : Interval} → Canonical w i → canonical? w i ≡ true
+canonical-is (some p) = rw (full p)
+canonical-is {w} none = rw (is-true (lt-test (least w) (greatest w)) (λ h. omega (ints, signs w)), is-true (bottom-test w (bottom w)) (unlike w))
+
+-- what is canonical and not bottom has a number
+pub has-number : {w : Width} {i : Interval} → Canonical w i → NotBottom w i → Proper w i
+has-number (some p) f = p
+has-number {w} none f = unlike w f
+
+-- both its ends are numbers of the width
+pub in-width : {w : Width} {i : Interval} → Canonical w i → (least w ≤ℤ i .min) × (i .min ≤ℤ greatest w) × (least w ≤ℤ i .max) × (i .max ≤ℤ greatest w)
+in-width (some p) = (p .above, omega ints, omega ints, p .below)
+in-width {w} none = let s = signs w in (omega ints, omega ints, omega ints, omega ints)

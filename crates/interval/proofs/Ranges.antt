@@ -1,0 +1,111 @@
+-- From exact ends to the range between them, as the mended operations put them together.
+use mathlib.Core.Path.{_≡_, refl, sym, _∙_}
+use mathlib.Core.Logic.{_⊎_, inl, inr}
+use mathlib.Core.Bool.{Bool, true, false, _&&_}
+use lib.IntN.{ℤ, negℤ, _+ℤ_, _-ℤ_, _*ℤ_}
+use lib.Signed.{_≤ℤ_, _<ℤ_}
+use mir.Syntax.{Width, w64}
+use mir.Val.{SFits}
+use Rattle.whole.specs.Choice.{pick}
+use Rattle.whole.specs.Whole.{minℤ, maxℤ, min4, max4}
+use Rattle.whole.specs.Range.{least, greatest, fits?}
+use Rattle.whole.specs.Exact.{exactly}
+use Rattle.whole.specs.declared.Exact.{Exact}
+use Rattle.whole.specs.declared.Exact.the-variants.{Is, DoesNotFit}
+use Rattle.whole.proofs.Linear.{ints}
+use Rattle.whole.proofs.Linear as L
+use Rattle.whole.proofs.Fits.{low, high}
+use Rattle.whole.proofs.Decides.{Decides, Beyond, both, fits-test, same-test, not-beyond}
+use Rattle.whole.proofs.Calls.{called-1, called}
+use Rattle.interval.specs.declared.IntervalAnswer.{IntervalAnswer}
+use Rattle.interval.specs.Set.{Interval, _⋯_}
+use Rattle.interval.specs.Answer.{Answer, is, refused, told}
+use Rattle.interval.specs.Ends.{rangeOf, leastOf, greatestOf}
+use Rattle.interval.specs.Mended.{ranged, strict, lowCorner, highCorner}
+use Rattle.interval.proofs.Ends.{min-is, max-is}
+
+-- ---- a call of an exact operation
+pub neg-called : (a m : ℤ) (r : Exact) → r ≡ exactly w64 (negℤ m) → m ≡ a → r ≡ exactly w64 (negℤ a)
+neg-called = called-1 (λ x. exactly w64 (negℤ x))
+
+pub add-called : (a m b n : ℤ) (r : Exact) → r ≡ exactly w64 (m +ℤ n) → m ≡ a → n ≡ b → r ≡ exactly w64 (a +ℤ b)
+add-called = called (λ x y. exactly w64 (x +ℤ y))
+
+pub sub-called : (a m b n : ℤ) (r : Exact) → r ≡ exactly w64 (m -ℤ n) → m ≡ a → n ≡ b → r ≡ exactly w64 (a -ℤ b)
+sub-called = called (λ x y. exactly w64 (x -ℤ y))
+
+pub mul-called : (a m b n : ℤ) (r : Exact) → r ≡ exactly w64 (m *ℤ n) → m ≡ a → n ≡ b → r ≡ exactly w64 (a *ℤ b)
+mul-called = called (λ x y. exactly w64 (x *ℤ y))
+
+-- ---- the range between two exact ends
+pub range-is : (w : Width) (lo hi : ℤ) → rangeOf (exactly w lo) (exactly w hi) ≡ ranged w lo hi
+unfolding rangeOf exactly fits?
+range-is w lo hi = go (fits? w lo) (fits? w hi)
+  where
+    go : (p q : Bool) → rangeOf (pick p (Is lo) DoesNotFit) (pick q (Is hi) DoesNotFit) ≡ pick (p && q) (is (lo ⋯ hi)) (refused 2)
+    go true true = refl
+    go true false = refl
+    go false q = refl
+
+pub ranged-made : (a b : Interval) (lo hi : ℤ) (e f : Exact) (s r : IntervalAnswer) → told r ≡ strict w64 a b (told s) → told s ≡ rangeOf e f → e ≡ exactly w64 lo → f ≡ exactly w64 hi → told r ≡ strict w64 a b (ranged w64 lo hi)
+ranged-made a b lo hi e f s r h k p q = let m : told s ≡ ranged w64 lo hi = rw (p, q) at k ∙ range-is w64 lo hi in rw m at h
+
+-- ---- the range of four corners
+pub least-called : (a m b n r : Exact) → r ≡ leastOf m n → m ≡ a → n ≡ b → r ≡ leastOf a b
+least-called = called leastOf
+
+pub greatest-called : (a m b n r : Exact) → r ≡ greatestOf m n → m ≡ a → n ≡ b → r ≡ greatestOf a b
+greatest-called = called greatestOf
+
+pub range-called : (a m b n : Exact) (r : IntervalAnswer) → told r ≡ rangeOf m n → m ≡ a → n ≡ b → told r ≡ rangeOf a b
+range-called a m b n r h p q = rw (p, q) at h
+
+pub ruleset cornered = (least-called, greatest-called, range-called)
+
+module _ (a b c d : ℤ) where
+  -- each of four lies from the least to the greatest
+  spread : ((min4 a b c d ≤ℤ a) × (min4 a b c d ≤ℤ b) × (min4 a b c d ≤ℤ c) × (min4 a b c d ≤ℤ d)) × ((a ≤ℤ max4 a b c d) × (b ≤ℤ max4 a b c d) × (c ≤ℤ max4 a b c d) × (d ≤ℤ max4 a b c d))
+  spread =
+      let l = L.least a b in
+      let m = L.least c d in
+      let n = L.least (minℤ a b) (minℤ c d) in
+      let p = L.greatest a b in
+      let q = L.greatest c d in
+      let r = L.greatest (maxℤ a b) (maxℤ c d) in
+      ((omega ints, omega ints, omega ints, omega ints), (omega ints, omega ints, omega ints, omega ints))
+
+  module _ (w : Width) where
+    four-fit : (SFits w a × SFits w b) × (SFits w c × SFits w d) → SFits w (min4 a b c d) × SFits w (max4 a b c d)
+    four-fit h = (min-is (SFits w) _ _ (min-is (SFits w) a b (h .0 .0) (h .0 .1)) (min-is (SFits w) c d (h .1 .0) (h .1 .1)), max-is (SFits w) _ _ (max-is (SFits w) a b (h .0 .0) (h .0 .1)) (max-is (SFits w) c d (h .1 .0) (h .1 .1)))
+
+    one-beyond : (x : ℤ) → min4 a b c d ≤ℤ x → x ≤ℤ max4 a b c d → Beyond w x → SFits w (min4 a b c d) × SFits w (max4 a b c d) → ⊥
+    one-beyond x h k (inl n) f = let l = low w _ (f .0) in omega ints
+    one-beyond x h k (inr n) f = let l = high w _ (f .1) in omega ints
+
+    -- both ends fit exactly if all four do
+    ends-fit : ((fits? w a && fits? w b) && (fits? w c && fits? w d)) ≡ (fits? w (min4 a b c d) && fits? w (max4 a b c d))
+    ends-fit = same-test (both (both (fits-test w a) (fits-test w b)) (both (fits-test w c) (fits-test w d))) (both (fits-test w (min4 a b c d)) (fits-test w (max4 a b c d))) (λ h k. out (four-fit h) k) some
+      where
+        out : SFits w (min4 a b c d) × SFits w (max4 a b c d) → Beyond w (min4 a b c d) ⊎ Beyond w (max4 a b c d) → ⊥
+        out f (inl n) = not-beyond (f .0) n
+        out f (inr n) = not-beyond (f .1) n
+
+        some : (Beyond w a ⊎ Beyond w b) ⊎ (Beyond w c ⊎ Beyond w d) → SFits w (min4 a b c d) × SFits w (max4 a b c d) → ⊥
+        some (inl (inl n)) = one-beyond a (spread .0 .0) (spread .1 .0) n
+        some (inl (inr n)) = one-beyond b (spread .0 .1) (spread .1 .1) n
+        some (inr (inl n)) = one-beyond c (spread .0 .2) (spread .1 .2) n
+        some (inr (inr n)) = one-beyond d (spread .0 .3) (spread .1 .3) n
+
+    pub corners-are : rangeOf (leastOf (leastOf (exactly w a) (exactly w b)) (leastOf (exactly w c) (exactly w d))) (greatestOf (greatestOf (exactly w a) (exactly w b)) (greatestOf (exactly w c) (exactly w d))) ≡ ranged w (min4 a b c d) (max4 a b c d)
+    unfolding rangeOf leastOf greatestOf exactly fits?
+    corners-are = go (fits? w a) (fits? w b) (fits? w c) (fits? w d) ∙ rw ends-fit
+      where
+        go : (p q r s : Bool) → rangeOf (leastOf (leastOf (pick p (Is a) DoesNotFit) (pick q (Is b) DoesNotFit)) (leastOf (pick r (Is c) DoesNotFit) (pick s (Is d) DoesNotFit))) (greatestOf (greatestOf (pick p (Is a) DoesNotFit) (pick q (Is b) DoesNotFit)) (greatestOf (pick r (Is c) DoesNotFit) (pick s (Is d) DoesNotFit))) ≡ pick ((p && q) && (r && s)) (is (min4 a b c d ⋯ max4 a b c d)) (refused 2)
+        go true true true true = refl
+        go true true true false = refl
+        go true true false s = refl
+        go true false r s = refl
+        go false q r s = refl
+
+pub corners-made : (a b : Interval) (e f g h : Exact) (s r : IntervalAnswer) → told r ≡ strict w64 a b (told s) → told s ≡ rangeOf (leastOf (leastOf e f) (leastOf g h)) (greatestOf (greatestOf e f) (greatestOf g h)) → e ≡ exactly w64 (a .min *ℤ b .min) → f ≡ exactly w64 (a .min *ℤ b .max) → g ≡ exactly w64 (a .max *ℤ b .min) → h ≡ exactly w64 (a .max *ℤ b .max) → told r ≡ strict w64 a b (ranged w64 (lowCorner a b) (highCorner a b))
+corners-made a b e f g h s r m k p q t u = let n : told s ≡ ranged w64 (lowCorner a b) (highCorner a b) = rw (p, q, t, u) at k ∙ corners-are (a .min *ℤ b .min) (a .min *ℤ b .max) (a .max *ℤ b .min) (a .max *ℤ b .max) w64 in rw n at m

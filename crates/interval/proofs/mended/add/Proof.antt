@@ -1,0 +1,27 @@
+use Rattle.interval.specs.Mended.{add}
+use Rattle.interval.proofs.Ranges.{ranged-made, add-called}
+use Rattle.whole.proofs.Flags.{flags}
+use borrow.Author.Needs.{needs}
+use Rattle.interval.proofs.mended.add.Statement.{statement}
+use Rattle.interval.proofs.mended.add.Tie as tie
+
+exact-add-requires : tie.Need-exact-add-requires
+exact-add-requires c κs = search needs
+
+exact-add-requires-2 : tie.Need-exact-add-requires-2
+exact-add-requires-2 c κs = search needs
+
+range-of-requires : tie.Need-range-of-requires
+range-of-requires c κs = search needs
+
+strict-requires : tie.Need-strict-requires
+strict-requires c κs = search needs
+
+returns : tie.Need-returns
+unfolding add
+returns c = search (ranged-made, add-called, flags) depth 8 fits 5000
+
+pub add-spec : {M : Type 1} → statement M
+add-spec =
+    tie.close
+    (tie.spec exact-add-requires exact-add-requires-2 range-of-requires strict-requires returns)

@@ -1,0 +1,40 @@
+use Rattle.whole.proofs.Flags.{flags}
+use Rattle.interval.proofs.Ranges.{corners-made, mul-called}
+use Rattle.interval.specs.Mended.{mul}
+use borrow.Author.Needs.{needs}
+use Rattle.interval.proofs.mended.mul.Statement.{statement}
+use Rattle.interval.proofs.mended.mul.Tie as tie
+
+exact-mul-requires : tie.Need-exact-mul-requires
+exact-mul-requires c κs = search needs
+
+exact-mul-requires-2 : tie.Need-exact-mul-requires-2
+exact-mul-requires-2 c κs = search needs
+
+exact-mul-requires-3 : tie.Need-exact-mul-requires-3
+exact-mul-requires-3 c κs = search needs
+
+exact-mul-requires-4 : tie.Need-exact-mul-requires-4
+exact-mul-requires-4 c κs = search needs
+
+corner-range-requires : tie.Need-corner-range-requires
+corner-range-requires c κs = search needs
+
+strict-requires : tie.Need-strict-requires
+strict-requires c κs = search needs
+
+returns : tie.Need-returns
+unfolding mul
+returns c = search (corners-made, mul-called, flags) depth 8 fits 5000
+
+pub mul-spec : {M : Type 1} → statement M
+mul-spec =
+    tie.close
+    (tie.spec
+    exact-mul-requires
+    exact-mul-requires-2
+    exact-mul-requires-3
+    exact-mul-requires-4
+    corner-range-requires
+    strict-requires
+    returns)

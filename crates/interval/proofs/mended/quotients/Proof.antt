@@ -1,0 +1,17 @@
+use Rattle.whole.proofs.Flags.{flags}
+use Rattle.interval.proofs.Calls.{asked}
+use borrow.Author.Needs.{needs}
+use Rattle.interval.proofs.mended.quotients.Statement.{statement}
+use Rattle.interval.proofs.mended.quotients.Tie as tie
+
+is-only-requires : tie.Need-is-only-requires
+is-only-requires c κs = search needs
+
+returns : tie.Need-returns
+returns c = search (asked, flags)
+
+returns-2 : tie.Need-returns-2
+returns-2 c = search (asked, flags)
+
+pub quotients-spec : {M : Type 1} → statement M
+quotients-spec = tie.close (tie.spec is-only-requires returns returns-2)

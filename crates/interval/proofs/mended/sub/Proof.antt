@@ -1,0 +1,27 @@
+use Rattle.interval.specs.Mended.{sub}
+use Rattle.interval.proofs.Ranges.{ranged-made, sub-called}
+use Rattle.whole.proofs.Flags.{flags}
+use borrow.Author.Needs.{needs}
+use Rattle.interval.proofs.mended.sub.Statement.{statement}
+use Rattle.interval.proofs.mended.sub.Tie as tie
+
+exact-sub-requires : tie.Need-exact-sub-requires
+exact-sub-requires c κs = search needs
+
+exact-sub-requires-2 : tie.Need-exact-sub-requires-2
+exact-sub-requires-2 c κs = search needs
+
+range-of-requires : tie.Need-range-of-requires
+range-of-requires c κs = search needs
+
+strict-requires : tie.Need-strict-requires
+strict-requires c κs = search needs
+
+returns : tie.Need-returns
+unfolding sub
+returns c = search (ranged-made, sub-called, flags) depth 8 fits 5000
+
+pub sub-spec : {M : Type 1} → statement M
+sub-spec =
+    tie.close
+    (tie.spec exact-sub-requires exact-sub-requires-2 range-of-requires strict-requires returns)

@@ -1,0 +1,20 @@
+use Rattle.interval.proofs.PortedCalls.{verdict-called}
+use borrow.Author.Needs.{needs}
+use Rattle.interval.proofs.ported.logical_and.Statement.{statement}
+use Rattle.interval.proofs.ported.logical_and.Tie as tie
+
+both-only-requires : tie.Need-both-only-requires
+both-only-requires c κs = search needs
+
+one-only-requires : tie.Need-one-only-requires
+one-only-requires c κs = search needs
+
+verdict-requires : tie.Need-verdict-requires
+verdict-requires c κs = search needs
+
+returns : tie.Need-returns
+returns c = search verdict-called
+
+pub logical-and-spec : {M : Type 1} → statement M
+logical-and-spec =
+    tie.close (tie.spec both-only-requires one-only-requires verdict-requires returns)

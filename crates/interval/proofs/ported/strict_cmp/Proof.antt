@@ -1,0 +1,48 @@
+use Rattle.interval.proofs.PortedCalls.{same-called}
+use Rattle.interval.proofs.Calls.{asked}
+use Rattle.interval.specs.Ported.{strictCmp}
+use Rattle.whole.proofs.Flags.{flags}
+use borrow.Author.Needs.{needs}
+use Rattle.interval.proofs.ported.strict_cmp.Statement.{statement}
+use Rattle.interval.proofs.ported.strict_cmp.Tie as tie
+
+one-bottom-requires : tie.Need-one-bottom-requires
+one-bottom-requires c κs = search needs
+
+returns : tie.Need-returns
+unfolding strictCmp
+returns c = search (same-called, asked, flags) depth 8 fits 5000
+
+returns-2 : tie.Need-returns-2
+unfolding strictCmp
+returns-2 c = search (same-called, asked, flags) depth 8 fits 5000
+
+returns-3 : tie.Need-returns-3
+unfolding strictCmp
+returns-3 c = search (same-called, asked, flags) depth 8 fits 5000
+
+singleton-requires : tie.Need-singleton-requires
+singleton-requires c κs = search needs
+
+singleton-requires-2 : tie.Need-singleton-requires-2
+singleton-requires-2 c κs = search needs
+
+same-one-requires : tie.Need-same-one-requires
+same-one-requires c κs = search needs
+
+returns-4 : tie.Need-returns-4
+unfolding strictCmp
+returns-4 c = search (same-called, asked, flags) depth 8 fits 5000
+
+pub strict-cmp-spec : {M : Type 1} → statement M
+strict-cmp-spec =
+    tie.close
+    (tie.spec
+    one-bottom-requires
+    returns
+    returns-2
+    returns-3
+    singleton-requires
+    singleton-requires-2
+    same-one-requires
+    returns-4)

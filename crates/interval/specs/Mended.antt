@@ -1,0 +1,128 @@
+-- The mended operations of document 01, by its set rules, over the width.
+use mathlib.Core.Bool.{Bool, _&&_, _||_}
+use lib.IntN.{ℤ, pos, negℤ, _+ℤ_, _-ℤ_, _*ℤ_}
+use lib.Signed.{quotZ, remZ}
+use mir.Syntax.{Width}
+use Rattle.whole.specs.Choice.{pick}
+use Rattle.whole.specs.Test.{_≤?_, _<?_, _≟_}
+use Rattle.whole.specs.Range.{least, greatest}
+use Rattle.whole.specs.Whole.{minℤ, maxℤ, min4, max4}
+use Rattle.interval.specs.Set.{Interval, _⋯_, _∈?_, top, bottom, single, isOnly, isBottom, empty?, canonical?}
+use Rattle.interval.specs.Answer.{Answer, is, refused}
+
+-- the range from lo to hi, refused by 2 if an end doesn't fit
+abbrev pub ranged : Width → ℤ → ℤ → Answer Interval
+ranged w lo hi = pick ((lo ∈? top w) && (hi ∈? top w)) (is (lo ⋯ hi)) (refused 2)
+
+-- what every arithmetic operation on two does first: 1 for what is not canonical, then bottom in, bottom out
+abbrev pub strict : Width → Interval → Interval → Answer Interval → Answer Interval
+strict w a b r = pick (canonical? w a && canonical? w b) (pick (empty? a || empty? b) (is (bottom w)) r) (refused 1)
+
+unfoldable pub neg : Width → Interval → Answer Interval
+neg w a = strict w a a (ranged w (negℤ (a .max)) (negℤ (a .min)))
+
+unfoldable pub add : Width → Interval → Interval → Answer Interval
+add w a b = strict w a b (ranged w (a .min +ℤ b .min) (a .max +ℤ b .max))
+
+unfoldable pub sub : Width → Interval → Interval → Answer Interval
+sub w a b = strict w a b (ranged w (a .min -ℤ b .max) (a .max -ℤ b .min))
+
+-- the least and the greatest of the four products of ends
+abbrev pub lowCorner : Interval → Interval → ℤ
+lowCorner a b = min4 (a .min *ℤ b .min) (a .min *ℤ b .max) (a .max *ℤ b .min) (a .max *ℤ b .max)
+
+abbrev pub highCorner : Interval → Interval → ℤ
+highCorner a b = max4 (a .min *ℤ b .min) (a .min *ℤ b .max) (a .max *ℤ b .min) (a .max *ℤ b .max)
+
+unfoldable pub mul : Width → Interval → Interval → Answer Interval
+mul w a b = strict w a b (ranged w (lowCorner a b) (highCorner a b))
+
+unfoldable pub div : Width → Interval → Interval → Answer Interval
+div w a b = strict w a b (is (pick (isOnly b (pos 0)) (bottom w) (top w)))
+
+-- the greatest magnitude in b
+abbrev pub magnitude : Interval → ℤ
+magnitude b = maxℤ (negℤ (b .min)) (b .max)
+
+-- the remainders of a's numbers, where all remainders lie from low to high
+unfoldable pub remWithin : Interval → (low high : ℤ) → Interval
+remWithin a low high =
+    pick (isOnly a (pos 0)) (single (pos 0))
+    (pick (pos 0 ≤? a .min) (pos 0 ⋯ high)
+    (pick (a .max ≤? pos 0) (low ⋯ pos 0)
+    (low ⋯ high)))
+
+-- those by divisors of a magnitude up to m
+abbrev pub remRange : Interval → ℤ → Interval
+remRange a m = remWithin a (pos 1 -ℤ m) (m -ℤ pos 1)
+
+-- of two single numbers; the quotient doesn't fit for MIN and -1 alone
+abbrev pub remSingle : Width → ℤ → ℤ → Answer Interval
+remSingle w x y = pick (quotZ x y ∈? top w) (is (single (remZ x y))) (refused 2)
+
+abbrev pub remOf : Width → Interval → Interval → Answer Interval
+remOf w a b =
+    pick (isOnly b (pos 0)) (is (bottom w))
+    (pick ((a .min ≟ a .max) && (b .min ≟ b .max)) (remSingle w (a .min) (b .min))
+    (is (remRange a (magnitude b))))
+
+unfoldable pub rem : Width → Interval → Interval → Answer Interval
+rem w a b = strict w a b (remOf w a b)
+
+-- true if it holds for every pair, false if for none, else both
+unfoldable pub verdict : Bool → Bool → Interval
+verdict every none = pick every (single (pos 1)) (pick none (single (pos 0)) (pos 0 ⋯ pos 1))
+
+-- what every comparison does first: 1 for what is not canonical, then an empty side gives both
+abbrev pub lenient : Width → Interval → Interval → Interval → Answer Interval
+lenient w a b v = pick (canonical? w a && canonical? w b) (is (pick (empty? a || empty? b) (pos 0 ⋯ pos 1) v)) (refused 1)
+
+abbrev pub ltV : Interval → Interval → Interval
+ltV a b = verdict (a .max <? b .min) (b .max ≤? a .min)
+
+abbrev pub leV : Interval → Interval → Interval
+leV a b = verdict (a .max ≤? b .min) (b .max <? a .min)
+
+abbrev pub eqV : Interval → Interval → Interval
+eqV a b = verdict ((a .max ≤? b .min) && (b .max ≤? a .min)) ((a .max <? b .min) || (b .max <? a .min))
+
+unfoldable pub eq : Width → Interval → Interval → Answer Interval
+eq w a b = lenient w a b (eqV a b)
+
+unfoldable pub lt : Width → Interval → Interval → Answer Interval
+lt w a b = lenient w a b (ltV a b)
+
+unfoldable pub gt : Width → Interval → Interval → Answer Interval
+gt w a b = lt w b a
+
+unfoldable pub le : Width → Interval → Interval → Answer Interval
+le w a b = lenient w a b (leV a b)
+
+unfoldable pub ge : Width → Interval → Interval → Answer Interval
+ge w a b = le w b a
+
+-- the ends of previous, but the new ones where previous has none: as ported
+unfoldable pub narrowed : Width → Interval → Interval → Interval
+narrowed w new previous =
+    pick (isBottom w previous || isBottom w new) (bottom w)
+    (pick (previous .min ≟ least w) (new .min) (previous .min) ⋯ pick (previous .max ≟ greatest w) (new .max) (previous .max))
+
+-- bottom for a range that holds nothing
+unfoldable pub filled : Width → Interval → Interval
+filled w v = pick (empty? v) (bottom w) v
+
+unfoldable pub narrow : Width → Interval → Interval → Answer Interval
+narrow w new previous = pick (canonical? w new && canonical? w previous) (is (filled w (narrowed w new previous))) (refused 1)
+
+-- the logic of 000
+abbrev pub andV : Interval → Interval → Interval
+andV a b = verdict (isOnly a (pos 1) && isOnly b (pos 1)) (isOnly a (pos 0) || isOnly b (pos 0))
+
+abbrev pub orV : Interval → Interval → Interval
+orV a b = verdict (isOnly a (pos 1) || isOnly b (pos 1)) (isOnly a (pos 0) && isOnly b (pos 0))
+
+abbrev pub notV : Interval → Interval
+notV a = verdict (isOnly a (pos 0)) (isOnly a (pos 1))
+
+unfoldable pub join : Interval → Interval → Interval
+join a b = minℤ (a .min) (b .min) ⋯ maxℤ (a .max) (b .max)

@@ -1,0 +1,15 @@
+pub mod Groups
+pub mod Written
+pub mod Inverse
+pub mod Signs
+pub mod Parts
+pub mod Sizes
+pub mod Listed
+pub mod Plans
+pub mod Holds
+pub mod Fielded
+pub mod Stepped
+pub mod Sheeted
+pub mod Answered
+pub mod Sound
+pub mod Claims

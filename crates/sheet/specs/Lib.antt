@@ -1,0 +1,11 @@
+pub mod Got
+pub mod Number
+pub mod Signed
+pub mod Operator
+pub mod Field
+pub mod Step
+pub mod Sheet
+pub mod Found
+pub mod Answer
+pub mod Lent
+pub mod Valid

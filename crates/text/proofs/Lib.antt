@@ -1,0 +1,9 @@
+pub mod Digits
+pub mod Room
+pub mod Reading
+pub mod Words
+pub mod Codes
+pub mod Back
+pub mod Pairs
+pub mod Ends
+pub mod Claims
