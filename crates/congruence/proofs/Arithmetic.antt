@@ -224,53 +224,12 @@ result-cases P exact.DoesNotFit g o f1 f2 f3 = f1 refl
 result-cases P (exact.Is x) exact.DoesNotFit o f1 f2 f3 = f2 refl
 result-cases P (exact.Is x) (exact.Is k) o f1 f2 f3 = f3 x k refl refl
 
-module _ (w : Width) (a b : Congruence) where
+module _ (a b : Congruence) where
   abbrev first : ℕ
   first = gcd (natAbs (a .modulus *ℤ b .modulus)) (natAbs (a .modulus *ℤ b .constant))
 
   abbrev pub D : ℕ
   D = gcd first (natAbs (b .modulus *ℤ a .constant))
-
-  pub formula-is : (k : ℤ) → formula w a b ≡ exact.Is k → (k ≡ pos D) × SFits w k
-  unfolding formula
-  formula-is k h =
-      let p = combined w (gcdThen w (exactly w (a .modulus *ℤ b .modulus)) (exactly w (a .modulus *ℤ b .constant))) (exactly w (b .modulus *ℤ a .constant)) k h in
-      let q = combined w (exactly w (a .modulus *ℤ b .modulus)) (exactly w (a .modulus *ℤ b .constant)) (p .left) (p .left-is) in (
-        p .is ∙ ap₂ (λ s t. pos (gcd (natAbs s) (natAbs t)))
-            (q .is ∙ ap₂ (λ s t. pos (gcd (natAbs s) (natAbs t))) (found-is w (a .modulus *ℤ b .modulus) (q .left) (q .left-is)) (found-is w (a .modulus *ℤ b .constant) (q .right) (q .right-is)))
-            (found-is w (b .modulus *ℤ a .constant) (p .right) (p .right-is)),
-        p .fits,
-      )
-
-  -- where the products fit the formula is the gcd of all three: of the first two it is beyond the width only if the third product is 0
-  pub formula-of : Proper w a → Proper w b → SFits w (a .modulus *ℤ b .modulus) → SFits w (a .modulus *ℤ b .constant) → SFits w (b .modulus *ℤ a .constant) → formula w a b ≡ exactly w (pos D)
-  unfolding formula gcdThen exactly
-  formula-of p q f g h = rw (is-fit f, is-fit g, is-fit h) (go (fits? w (pos first)) refl)
-    where
-      positive : pos 0 ≤ℤ (a .modulus *ℤ b .modulus)
-      positive = mul-nonneg (a .modulus) (b .modulus) (canonical-positive a (p .canonical)) (canonical-positive b (q .canonical))
-
-      own-abs : pos (natAbs (a .modulus *ℤ b .modulus)) ≡ a .modulus *ℤ b .modulus
-      own-abs = let l = positive in omega (ints, abs (a .modulus *ℤ b .modulus))
-
-      -- if the first gcd is no number of the width, the moduli's product is 0
-      none-first : (k : ℕ) → natAbs (a .modulus *ℤ b .modulus) ≡ k → fits? w (pos first) ≡ false → a .modulus *ℤ b .modulus ≡ pos 0
-      none-first zero i e = natAbs-zero (a .modulus *ℤ b .modulus) i
-      none-first (suc k) i e = absurd (clash (sym (is-fit (divisor-fits w first (natAbs (a .modulus *ℤ b .modulus)) (omega arith)
-          (gcd-left (natAbs (a .modulus *ℤ b .modulus)) (natAbs (a .modulus *ℤ b .constant))) (subst (λ t. SFits w t) (sym own-abs) f))) ∙ e))
-
-      whole : fits? w (pos first) ≡ false → (a .modulus ≡ pos 0) ⊎ (b .modulus ≡ pos 0) → D ≡ first
-      whole e (inl i) = absurd (clash (sym (is-fit {w = w} zero-fits) ∙ (ap (λ t. fits? w (pos t)) (sym zero-gcd) ∙ e)))
-        where
-          zero-gcd : first ≡ 0
-          zero-gcd = ap (λ m. gcd (natAbs (m *ℤ b .modulus)) (natAbs (m *ℤ b .constant))) i
-              ∙ (ap₂ (λ s t. gcd (natAbs s) (natAbs t)) (zero-*ℤ (b .modulus)) (zero-*ℤ (b .constant)) ∙ gcd-n-0 0)
-      whole e (inr j) = ap (λ t. gcd first (natAbs t)) (ap (λ n. n *ℤ a .constant) j ∙ zero-*ℤ (a .constant)) ∙ gcd-n-0 first
-
-      go : (t : Bool) → fits? w (pos first) ≡ t → gcdThen w (pick t (exact.Is (pos first)) exact.DoesNotFit) (exact.Is (b .modulus *ℤ a .constant)) ≡ exactly w (pos D)
-      go true e = refl
-      go false e = let z = none-first (natAbs (a .modulus *ℤ b .modulus)) refl e in
-          rw (whole e (no-zero (a .modulus) (b .modulus) z), e) refl
 
   pub in-product : (x y : ℤ) → x ∈ a → y ∈ b → Cong D (x *ℤ y) (a .constant *ℤ b .constant)
   in-product x y h k =
@@ -287,6 +246,48 @@ module _ (w : Width) (a b : Congruence) where
       turned : (m e : ℤ) → natAbs (m *ℤ e) ≡ natAbs (e *ℤ pos (natAbs m))
       turned m e = natAbs-*ℤ m e ∙ (mul-comm (natAbs m) (natAbs e) ∙ sym (natAbs-*ℤ e (pos (natAbs m))))
 
+module _ (w : Width) (a b : Congruence) where
+  pub formula-is : (k : ℤ) → formula w a b ≡ exact.Is k → (k ≡ pos (D a b)) × SFits w k
+  unfolding formula
+  formula-is k h =
+      let p = combined w (gcdThen w (exactly w (a .modulus *ℤ b .modulus)) (exactly w (a .modulus *ℤ b .constant))) (exactly w (b .modulus *ℤ a .constant)) k h in
+      let q = combined w (exactly w (a .modulus *ℤ b .modulus)) (exactly w (a .modulus *ℤ b .constant)) (p .left) (p .left-is) in (
+        p .is ∙ ap₂ (λ s t. pos (gcd (natAbs s) (natAbs t)))
+            (q .is ∙ ap₂ (λ s t. pos (gcd (natAbs s) (natAbs t))) (found-is w (a .modulus *ℤ b .modulus) (q .left) (q .left-is)) (found-is w (a .modulus *ℤ b .constant) (q .right) (q .right-is)))
+            (found-is w (b .modulus *ℤ a .constant) (p .right) (p .right-is)),
+        p .fits,
+      )
+
+  -- where the products fit the formula is the gcd of all three: of the first two it is beyond the width only if the third product is 0
+  pub formula-of : Proper w a → Proper w b → SFits w (a .modulus *ℤ b .modulus) → SFits w (a .modulus *ℤ b .constant) → SFits w (b .modulus *ℤ a .constant) → formula w a b ≡ exactly w (pos (D a b))
+  unfolding formula gcdThen exactly
+  formula-of p q f g h = rw (is-fit f, is-fit g, is-fit h) (go (fits? w (pos (first a b))) refl)
+    where
+      positive : pos 0 ≤ℤ (a .modulus *ℤ b .modulus)
+      positive = mul-nonneg (a .modulus) (b .modulus) (canonical-positive a (p .canonical)) (canonical-positive b (q .canonical))
+
+      own-abs : pos (natAbs (a .modulus *ℤ b .modulus)) ≡ a .modulus *ℤ b .modulus
+      own-abs = let l = positive in omega (ints, abs (a .modulus *ℤ b .modulus))
+
+      -- if the first gcd is no number of the width, the moduli's product is 0
+      none-first : (k : ℕ) → natAbs (a .modulus *ℤ b .modulus) ≡ k → fits? w (pos (first a b)) ≡ false → a .modulus *ℤ b .modulus ≡ pos 0
+      none-first zero i e = natAbs-zero (a .modulus *ℤ b .modulus) i
+      none-first (suc k) i e = absurd (clash (sym (is-fit (divisor-fits w (first a b) (natAbs (a .modulus *ℤ b .modulus)) (omega arith)
+          (gcd-left (natAbs (a .modulus *ℤ b .modulus)) (natAbs (a .modulus *ℤ b .constant))) (subst (λ t. SFits w t) (sym own-abs) f))) ∙ e))
+
+      whole : fits? w (pos (first a b)) ≡ false → (a .modulus ≡ pos 0) ⊎ (b .modulus ≡ pos 0) → D a b ≡ first a b
+      whole e (inl i) = absurd (clash (sym (is-fit {w = w} zero-fits) ∙ (ap (λ t. fits? w (pos t)) (sym zero-gcd) ∙ e)))
+        where
+          zero-gcd : first a b ≡ 0
+          zero-gcd = ap (λ m. gcd (natAbs (m *ℤ b .modulus)) (natAbs (m *ℤ b .constant))) i
+              ∙ (ap₂ (λ s t. gcd (natAbs s) (natAbs t)) (zero-*ℤ (b .modulus)) (zero-*ℤ (b .constant)) ∙ gcd-n-0 0)
+      whole e (inr j) = ap (λ t. gcd (first a b) (natAbs t)) (ap (λ n. n *ℤ a .constant) j ∙ zero-*ℤ (a .constant)) ∙ gcd-n-0 (first a b)
+
+      go : (t : Bool) → fits? w (pos (first a b)) ≡ t → gcdThen w (pick t (exact.Is (pos (first a b))) exact.DoesNotFit) (exact.Is (b .modulus *ℤ a .constant)) ≡ exactly w (pos (D a b))
+      go true e = refl
+      go false e = let z = none-first (natAbs (a .modulus *ℤ b .modulus)) refl e in
+          rw (whole e (no-zero (a .modulus) (b .modulus) z), e) refl
+
   -- of two single numbers the formula is 0
   formula-zero : a .modulus ≡ pos 0 → b .modulus ≡ pos 0 → formula w a b ≡ exact.Is (pos 0)
   unfolding formula gcdThen exactly
@@ -299,7 +300,7 @@ module _ (w : Width) (a b : Congruence) where
       (λ h. instead (λ i j. clash (sym (is-fit (subst (λ t. SFits w t) (ap₂ _*ℤ_ (single-is a x i p) (single-is b y j q)) f)) ∙ not-found w (a .constant *ℤ b .constant) h)))
       (λ h. instead (λ i j. let z : _≡_ {A = ℕ} 0 1 = cc (formula-zero i j) in omega arith))
       (λ u k h i. let e = formula-is k i .0 in
-      subst (λ t. (x *ℤ y) ∈ cong (floorRem u t) t) (sym e) (reduced-in u D (x *ℤ y) (subst (λ t. Cong D (x *ℤ y) t) (sym (found-is w (a .constant *ℤ b .constant) u h)) (in-product x y p q)))))
+      subst (λ t. (x *ℤ y) ∈ cong (floorRem u t) t) (sym e) (reduced-in u (D a b) (x *ℤ y) (subst (λ t. Cong (D a b) (x *ℤ y) t) (sym (found-is w (a .constant *ℤ b .constant) u h)) (in-product a b x y p q)))))
     where
       instead : (a .modulus ≡ pos 0 → b .modulus ≡ pos 0 → ⊥) → (x *ℤ y) ∈ pick (singles? a b) bottom top
       instead n = branch (singles-test a b) (λ t. (x *ℤ y) ∈ t) (λ s. absurd (n (s .0) (s .1))) (λ s. all (x *ℤ y))
@@ -311,7 +312,7 @@ module _ (w : Width) (a b : Congruence) where
       (λ u k h i.
       let r = formula-is k i in
       let e = found-is w (a .constant *ℤ b .constant) u h in
-      subst (λ t. Proper w (cong (floorRem u t) t)) (sym (r .0)) (reduced-proper w u D (λ z. subst (λ t. SFits w t) (sym e) (yes (fits-test w (a .constant *ℤ b .constant)) (found-fits w (a .constant *ℤ b .constant) u h))) (subst (λ t. SFits w t) (r .0) (r .1)))))
+      subst (λ t. Proper w (cong (floorRem u t) t)) (sym (r .0)) (reduced-proper w u (D a b) (λ z. subst (λ t. SFits w t) (sym e) (yes (fits-test w (a .constant *ℤ b .constant)) (found-fits w (a .constant *ℤ b .constant) u h))) (subst (λ t. SFits w t) (r .0) (r .1)))))
     where
       instead : Proper w (pick (singles? a b) bottom top)
       instead = branch (singles-test a b) (Proper w) (λ s. bottom-proper w) (λ s. top-proper w)

@@ -133,18 +133,12 @@ module _ (w : Width) (a b : Congruence) where
   sub-covers x y f p q = arithmetic.difference-in w a b (λ i j. subst (λ t. SFits w t) (ap (λ t. t -ℤ y) (single-is a x i p) ∙ ap (λ t. a .constant -ℤ t) (single-is b y j q)) f) (x -ℤ y)
       (record { x = x; y = y; left = p; right = q; is = refl })
 
-  pub neg-exact : Proper w a → (a .modulus ≡ pos 0 → SFits w (negℤ (a .constant))) → (z : ℤ) → z ∈ mended.negative w a ↔ Negation a z
-  neg-exact p f z = (arithmetic.negative-out w a p z, arithmetic.negative-in w a f z)
-
-  pub neg-over : a .modulus ≡ pos 0 → fits? w (negℤ (a .constant)) ≡ false → mended.negative w a ≡ bottom
-  neg-over = arithmetic.negative-over w a
-
   -- covering every result that fits
   pub mul-covers : (x y : ℤ) → SFits w (x *ℤ y) → x ∈ a → y ∈ b → (x *ℤ y) ∈ mended.product w a b
   mul-covers = arithmetic.product-covers w a b
 
   -- 000's formula for the modulus: where the products fit, it is their gcd, or that this doesn't fit
-  pub mul-formula : Proper w a → Proper w b → SFits w (a .modulus *ℤ b .modulus) → SFits w (a .modulus *ℤ b .constant) → SFits w (b .modulus *ℤ a .constant) → formula w a b ≡ exactly w (pos (arithmetic.D w a b))
+  pub mul-formula : Proper w a → Proper w b → SFits w (a .modulus *ℤ b .modulus) → SFits w (a .modulus *ℤ b .constant) → SFits w (b .modulus *ℤ a .constant) → formula w a b ≡ exactly w (pos (arithmetic.D a b))
   mul-formula = arithmetic.formula-of w a b
 
   pub div-covers : Proper w a → (x y : ℤ) → y ≢ pos 0 → SFits w (quotZ x y) → x ∈ a → y ∈ b → quotZ x y ∈ mended.quotient w a b
@@ -153,6 +147,13 @@ module _ (w : Width) (a b : Congruence) where
   -- canonical answers, of the width
   pub arithmetic-proper : Proper w a → Proper w (mended.negative w a) × Proper w (mended.sum w a b) × Proper w (mended.difference w a b) × Proper w (mended.product w a b) × Proper w (mended.quotient w a b)
   arithmetic-proper p = (arithmetic.negative-proper w a, arithmetic.sum-proper w a b, arithmetic.difference-proper w a b, arithmetic.product-proper w a b, quotients.quotient-proper w a b p)
+
+module _ (w : Width) (a : Congruence) where
+  pub neg-exact : Proper w a → (a .modulus ≡ pos 0 → SFits w (negℤ (a .constant))) → (z : ℤ) → z ∈ mended.negative w a ↔ Negation a z
+  neg-exact p f z = (arithmetic.negative-out w a p z, arithmetic.negative-in w a f z)
+
+  pub neg-over : a .modulus ≡ pos 0 → fits? w (negℤ (a .constant)) ≡ false → mended.negative w a ≡ bottom
+  neg-over = arithmetic.negative-over w a
 
 -- ---- comparisons
 
@@ -232,16 +233,16 @@ pub error-6 : (ported.meet (cong (pos 1) (pos 2)) two-of-three ≡ Is (cong (pos
 unfolding within2 domain? bottom? _≟_ _<?_ _≤?_ ported.met ported.metClasses ported.onTruth ported.indivisible ported.reduced ported.normalize absThen exactly fits? gcd lcm steps mended.has? alike?
 error-6 = (
   refl,
-  yes (lattice.has-test (cong (pos 1) (pos 2)) two-of-three (pos 5) refl) refl,
-  yes (lattice.has-test two-of-three two-of-three (pos 5) refl) refl,
-  no (lattice.has-test (cong (pos 1) (pos 6)) two-of-three (pos 5) refl) refl,
+  yes (lattice.has-test (cong (pos 1) (pos 2)) (pos 5) refl) refl,
+  yes (lattice.has-test two-of-three (pos 5) refl) refl,
+  no (lattice.has-test (cong (pos 1) (pos 6)) (pos 5) refl) refl,
 )
 
 -- error 8: widening answers the new value alone, which has not the previous numbers
 pub error-8 : (ported.widen (cong (pos 1) (pos 0)) (cong (pos 0) (pos 0)) ≡ Is (cong (pos 1) (pos 0)))
     × (pos 0 ∈ cong (pos 0) (pos 0)) × (pos 0 ∈ cong (pos 1) (pos 0) → ⊥)
 unfolding within2 domain? bottom? _≟_ _<?_ mended.has? alike?
-error-8 = (refl, sets.alone-in (pos 0), no (lattice.has-test (cong (pos 1) (pos 0)) top (pos 0) refl) refl)
+error-8 = (refl, sets.alone-in (pos 0), no (lattice.has-test (cong (pos 1) (pos 0)) (pos 0) refl) refl)
 
 -- ---- the fourteen numbers, (8) to (12): ported, then mended
 

@@ -23,6 +23,7 @@ use Rattle.congruence.specs.declared.Congruence.{Congruence}
 use Rattle.congruence.specs.Set.{cong, bottom}
 use Rattle.congruence.specs.Numbers.{alike?}
 use Rattle.congruence.specs.Mended.{has?, found, overlap}
+use Rattle.congruence.proofs.Sets.{clash}
 
 -- ---- the test
 
@@ -94,9 +95,6 @@ found-none : {A : Type 0} (t : ℕ → Bool) (f : ℕ → A) (d : A) (n : ℕ) �
 unfolding found
 found-none t f d zero h = refl
 found-none t f d (suc n) h = rw (h n (omega arith)) (found-none t f d n (λ x k. h x (omega arith)))
-
-clash : _≡_ {A = Bool} true false → ⊥
-clash e = let z : _≡_ {A = ℕ} 0 1 = cc in omega arith
 
 found-is : {A : Type 0} (t : ℕ → Bool) (f : ℕ → A) (d : A) (n x : ℕ) → x < n → t x ≡ true → ((y : ℕ) → y < n → t y ≡ true → f y ≡ f x) → found t f d n ≡ f x
 unfolding found

@@ -27,7 +27,7 @@ use Rattle.congruence.specs.Answer.{within2, noValue}
 use Rattle.congruence.specs.Numbers.{gcdThen, absThen, formula}
 use Rattle.congruence.specs.Ported.{gcdOf, normalize, made, held, asserted, joined, negated, added, addedTo, subtracted, multiplied, dividedBy, divided, only?}
 use Rattle.congruence.proofs.Cases.{found-is}
-use Rattle.congruence.proofs.Sets.{bottom-test, all, single-is}
+use Rattle.congruence.proofs.Sets.{by, bottom-test, all, single-is}
 use Rattle.congruence.proofs.Arithmetic.{combined, D, formula-is, in-product}
 use Rattle.congruence.proofs.Quotients.{by-abs, quotient-class, divides-test}
 
@@ -79,10 +79,6 @@ made-covers : (c m : Exact) (v : Congruence) (z : ℤ) (k : ℕ) → made c m �
 made-covers c m v z k h f g x d =
     let p = parts c m v h in
     subst (λ t. x ∈ t) (sym (p .is ∙ ap₂ normalize (f (p .constant) (p .constant-is)) (g (p .modulus) (p .modulus-is)))) (normalize-in z k x d)
-
-by : {P : Type 0} (t : Bool) → (t ≡ true → P) → (t ≡ false → P) → P
-by true f g = f refl
-by false f g = g refl
 
 abs-then-found : (z k : ℤ) → absThen w64 (exactly w64 z) ≡ exact.Is k → k ≡ pos (natAbs z)
 unfolding absThen
@@ -147,8 +143,8 @@ module _ (a b v : Congruence) (x y : ℤ) (p : x ∈ a) (q : y ∈ b) where
   multiplied-is = rw (p .some, q .some) refl
 
   pub multiplied-covers : multiplied a b ≡ Is v → (x *ℤ y) ∈ v
-  multiplied-covers h = made-covers (exactly w64 (a .constant *ℤ b .constant)) (formula w64 a b) v (a .constant *ℤ b .constant) (D w64 a b) (sym multiplied-is ∙ h)
-      (found-is w64 (a .constant *ℤ b .constant)) (λ u e. formula-is w64 a b u e .0) (x *ℤ y) (in-product w64 a b x y p q)
+  multiplied-covers h = made-covers (exactly w64 (a .constant *ℤ b .constant)) (formula w64 a b) v (a .constant *ℤ b .constant) (D a b) (sym multiplied-is ∙ h)
+      (found-is w64 (a .constant *ℤ b .constant)) (λ u e. formula-is w64 a b u e .0) (x *ℤ y) (in-product a b x y p q)
 
 -- ---- what `from` let pass
 

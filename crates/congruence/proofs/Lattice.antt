@@ -23,7 +23,7 @@ use Rattle.congruence.specs.Set.{cong, top, bottom, bottom?, _∈_, _⊆
 use Rattle.congruence.specs.Numbers.{alike?}
 use Rattle.congruence.specs.Mended.{classOf, has?, apart?, inside?, joint, overlap, common, beside}
 use Rattle.congruence.proofs.Classes.{alike-test, to-abs, overlap-none, overlap-is, shared, shared-below, shared-left, shared-right, lcm-pos}
-use Rattle.congruence.proofs.Sets.{clash, bottom-test, none, own, equal-at-0, single-is, canonical-modulus, bottom-proper}
+use Rattle.congruence.proofs.Sets.{clash, by, bottom-test, none, own, equal-at-0, single-is, canonical-modulus, bottom-proper}
 use Rattle.congruence.proofs.Results.{class-in, class-out, class-over, class-proper}
 
 -- ---- inclusion
@@ -83,10 +83,6 @@ module _ (a b : Congruence) where
       apart (na, inl i) f = let h = is-false (bottom-test a) na in none c (subst (λ t. c ∈ t) i (f c (own a h)))
       apart (na, inr (inl k)) f = k (needs-class (is-false (bottom-test a) na) f)
       apart (na, inr (inr k)) f = k (∣-at (a .modulus -ℤ pos 0) (sym (less-0 (a .modulus))) (∣-natAbs (a .modulus) (needs-divisor (is-false (bottom-test a) na) f)))
-
-by : {P : Type 0} (t : Bool) → (t ≡ true → P) → (t ≡ false → P) → P
-by true f g = f refl
-by false f g = g refl
 
 -- canonical values that stand for the same numbers are equal
 pub unique : (a b : Congruence) → Canonical a → Canonical b → a ⊆ b → b ⊆ a → a ≡ b
@@ -211,18 +207,17 @@ module _ (w : Width) (a b : Congruence) where
 
 -- ---- meet
 
-module _ (a b : Congruence) where
-  pub has-test : (z : ℤ) → bottom? a ≡ false → Decides (z ∈ a) (z ∈ a → ⊥) (has? a z)
-  unfolding has?
-  has-test z h = weaken (λ d. record { some = h; class = d }) (λ f i. f (i .class)) (alike-test (natAbs (a .modulus)) z (a .constant))
+pub has-test : (a : Congruence) (z : ℤ) → bottom? a ≡ false → Decides (z ∈ a) (z ∈ a → ⊥) (has? a z)
+unfolding has?
+has-test a z h = weaken (λ d. record { some = h; class = d }) (λ f i. f (i .class)) (alike-test (natAbs (a .modulus)) z (a .constant))
 
 -- a single number and a value
 module _ (a b : Congruence) (e : a .modulus ≡ pos 0) (nb : bottom? b ≡ false) (x : ℤ) where
   pub picked-in : x ∈ a → x ∈ b → x ∈ pick (has? b (a .constant)) a bottom
-  picked-in p q = branch (has-test b a (a .constant) nb) (λ t. x ∈ t) (λ h. p) (λ f. absurd (f (subst (λ t. t ∈ b) (single-is a x e p) q)))
+  picked-in p q = branch (has-test b (a .constant) nb) (λ t. x ∈ t) (λ h. p) (λ f. absurd (f (subst (λ t. t ∈ b) (single-is a x e p) q)))
 
   pub picked-out : x ∈ pick (has? b (a .constant)) a bottom → (x ∈ a) × (x ∈ b)
-  picked-out = branch (has-test b a (a .constant) nb) (λ t. x ∈ t → (x ∈ a) × (x ∈ b)) (λ h p. (p, subst (λ t. t ∈ b) (sym (single-is a x e p)) h)) (λ f p. absurd (none x p))
+  picked-out = branch (has-test b (a .constant) nb) (λ t. x ∈ t → (x ∈ a) × (x ∈ b)) (λ h p. (p, subst (λ t. t ∈ b) (sym (single-is a x e p)) h)) (λ f p. absurd (none x p))
 
 module _ (w : Width) (a b : Congruence) where
   abbrev l : ℕ
@@ -308,8 +303,8 @@ module _ (w : Width) (a b : Congruence) where
   pub common-proper : Proper w a → Proper w b → Proper w (common w a b)
   unfolding common
   common-proper p q = beside-proper _ (λ na nb.
-      branch (eq-test (a .modulus) (pos 0)) (Proper w) (λ i. branch (has-test b a (a .constant) nb) (Proper w) (λ h. p) (λ h. bottom-proper w))
-      (λ i. branch (eq-test (b .modulus) (pos 0)) (Proper w) (λ j. branch (has-test a b (b .constant) na) (Proper w) (λ h. q) (λ h. bottom-proper w))
+      branch (eq-test (a .modulus) (pos 0)) (Proper w) (λ i. branch (has-test b (a .constant) nb) (Proper w) (λ h. p) (λ h. bottom-proper w))
+      (λ i. branch (eq-test (b .modulus) (pos 0)) (Proper w) (λ j. branch (has-test a (b .constant) na) (Proper w) (λ h. q) (λ h. bottom-proper w))
       (λ j. both-classes na nb i j)))
     where
       at : (k : ℕ) → k < l → SFits w (pos l) → Proper w (cong (pos k) (pos l))

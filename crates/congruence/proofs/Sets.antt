@@ -22,6 +22,11 @@ use Rattle.congruence.specs.Set.{cong, top, bottom, bottom?, _∈_, doma
 pub clash : _≡_ {A = Bool} true false → ⊥
 clash e = let z : _≡_ {A = ℕ} 0 1 = cc in omega arith
 
+-- both values of a test
+pub by : {P : Type 0} (t : Bool) → (t ≡ true → P) → (t ≡ false → P) → P
+by true f g = f refl
+by false f g = g refl
+
 -- ---- the bottom
 
 pub bottom-test : (a : Congruence) → Decides (a ≡ bottom) (a ≢ bottom) (bottom? a)

@@ -13,8 +13,7 @@ pub mod ported;
 mod residue;
 
 ghost use mathlib.Core.Path.{_≡_};
-ghost use mathlib.Core.Bool.{Bool, _&&_, _||_};
-ghost use lib.IntN.{ℤ, pos};
+ghost use mathlib.Core.Bool.{_&&_, _||_};
 ghost use Rattle.congruence.specs.Set.{cong, bottom?, domain?, singles?, form};
 ghost use mir.Syntax.{w64};
 ghost use Rattle.congruence.specs.Numbers.{formula, divides?};

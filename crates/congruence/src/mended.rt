@@ -28,14 +28,11 @@ use whole::floored_remainder;
 use whole::gcd_u64;
 use whole::magnitude;
 ghost use mathlib.Core.Path.{_≡_};
-ghost use mathlib.Core.Bool.{Bool};
-ghost use Prim.Native.Nat.{ℕ, _<_};
-ghost use lib.IntN.{ℤ, pos, natAbs, negℤ, _+ℤ_, _-ℤ_};
+ghost use lib.IntN.{pos, natAbs, _+ℤ_, _-ℤ_};
 ghost use lib.Signed.{_<ℤ_};
 ghost use mir.Syntax.{w64};
 ghost use Rattle.whole.specs.Test.{_≤?_, _<?_};
 ghost use Rattle.whole.specs.Divides.{gcd, floorRem};
-ghost use Rattle.congruence.specs.Set.{cong};
 ghost use Rattle.congruence.specs.Mended as spec;
 
 // ---- what the operations are made of

@@ -27,7 +27,6 @@ use whole::exact_sub;
 use whole::gcd;
 use whole::lcm;
 ghost use mathlib.Core.Path.{_≡_};
-ghost use lib.IntN.{ℤ, pos};
 ghost use Rattle.congruence.specs.Set.{cong};
 ghost use Rattle.congruence.specs.Ported as spec;
 
