@@ -100,7 +100,12 @@ fn spacing_by(order: Order, less: Congruence, equal: Congruence, greater: Congru
 }
 
 // The same of an order that may be refused.
-fn spacing_on(order: OrderAnswer, less: Congruence, equal: Congruence, greater: Congruence) -> CongruenceAnswer
+fn spacing_on(
+    order: OrderAnswer,
+    less: Congruence,
+    equal: Congruence,
+    greater: Congruence,
+) -> CongruenceAnswer
     ensures { λ r. ⌜ r ≡ spacingOn order less equal greater ⌝ }
 {
     match order {
