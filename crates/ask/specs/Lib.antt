@@ -1,4 +1,5 @@
 pub mod Taken
 pub mod Said
 pub mod Number
-pub mod Order
+pub mod Names
+pub mod Answer

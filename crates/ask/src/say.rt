@@ -7,10 +7,11 @@ ghost use Rattle.whole.specs.Choice.{pick};
 ghost use Rattle.text.specs.Decimal.{decimal, digits};
 ghost use Rattle.text.specs.End.{endText};
 ghost use Rattle.text.specs.Hex.{hexText};
-ghost use Rattle.ask.specs.Order.{orderName};
+ghost use Rattle.ask.specs.Names.{orderName, signName};
 ghost use Rattle.ask.specs.Said.{placeOf, Says};
 ghost use Rattle.ask.specs.Number.{notUnderstood};
 use refusal::Refusal;
+use sign::Sign;
 use text::Put;
 use whole::Order;
 
@@ -102,6 +103,21 @@ pub fn order(out: &mut [u8], made: usize, o: Order) -> usize
         Order::Equal => word(out, made, b"Equal"),
         Order::Greater => word(out, made, b"Greater"),
         Order::None => word(out, made, b"None"),
+    }
+}
+
+pub fn sign(out: &mut [u8], made: usize, s: Sign) -> usize
+    ensures { λ r. ⌜ Says (signName s ∷ []) (now (out .entry)) made (now (out .exit)) r ⌝ }
+{
+    match s {
+        Sign::Top => word(out, made, b"Top"),
+        Sign::Bottom => word(out, made, b"Bottom"),
+        Sign::Negative => word(out, made, b"Negative"),
+        Sign::Zero => word(out, made, b"Zero"),
+        Sign::Positive => word(out, made, b"Positive"),
+        Sign::NonNeg => word(out, made, b"NonNeg"),
+        Sign::NonZero => word(out, made, b"NonZero"),
+        Sign::NonPos => word(out, made, b"NonPos"),
     }
 }
 
