@@ -2,4 +2,5 @@ pub mod Taken
 pub mod Said
 pub mod Number
 pub mod Names
+pub mod Ranges
 pub mod Answer

@@ -6,6 +6,8 @@ use text::word;
 const LONGEST: usize = 32768;
 
 // The families' names, as word::word_at has them.
+const INTERVAL: u64 = 0x696e74657276616c;
+
 const MENDED: u64 = 0x6d656e646564;
 
 const NUMBER: u64 = 0x6e756d626572;
@@ -25,6 +27,7 @@ fn say(line: &[u8], out: &mut [u8], made: usize) -> usize {
         SHORT => match first {
             NUMBER => crate::number::say(line, at, out, made),
             SIGN => answer::say(out, made, crate::signs::answer(line, at)),
+            INTERVAL => answer::say(out, made, crate::intervals::answer(line, at)),
             MENDED => answer::say(out, made, crate::mended::answer(line, at)),
             _ => crate::say::not_understood(out, made),
         },

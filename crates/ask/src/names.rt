@@ -16,14 +16,20 @@ pub enum Op {
     LogicalEq,
     LogicalNot,
     LogicalOr,
+    MayEqualWhen,
+    MaybeLeWhen,
+    MaybeLessWhen,
     Meet,
     Mul,
     Narrow,
     Neg,
     OfInterval,
     OfNumber,
+    OfSign,
     PartialCmp,
     Rem,
+    Singleton,
+    Smaller,
     StrictCmp,
     Sub,
     Top,
@@ -54,7 +60,11 @@ const NARROW: u64 = 0x6e6172726f77;
 
 const NEG: u64 = 0x6e6567;
 
+const OF_SIGN: u64 = 0x6f665f7369676e;
+
 const REM: u64 = 0x72656d;
+
+const SMALLER: u64 = 0x736d616c6c6572;
 
 const SUB: u64 = 0x737562;
 
@@ -78,7 +88,9 @@ fn short(first: u64) -> Op {
         MUL => Op::Mul,
         NARROW => Op::Narrow,
         NEG => Op::Neg,
+        OF_SIGN => Op::OfSign,
         REM => Op::Rem,
+        SMALLER => Op::Smaller,
         SUB => Op::Sub,
         TOP => Op::Top,
         WEAK_CMP => Op::WeakCmp,
@@ -94,11 +106,17 @@ const LESS_OR_: u64 = 0x6c6573735f6f725f;
 
 const LOGICAL_: u64 = 0x6c6f676963616c5f;
 
+const MAY_EQUA: u64 = 0x6d61795f65717561;
+
+const MAYBE_LE: u64 = 0x6d617962655f6c65;
+
 const OF_INTER: u64 = 0x6f665f696e746572;
 
 const OF_NUMBE: u64 = 0x6f665f6e756d6265;
 
 const PARTIAL_: u64 = 0x7061727469616c5f;
+
+const SINGLETO: u64 = 0x73696e676c65746f;
 
 const STRICT_C: u64 = 0x7374726963745f63;
 
@@ -111,7 +129,11 @@ const EQ: u64 = 0x6571;
 
 const EQUAL: u64 = 0x657175616c;
 
+const L_WHEN: u64 = 0x6c5f7768656e;
+
 const MP: u64 = 0x6d70;
+
+const N: u64 = 0x6e;
 
 const NOT: u64 = 0x6e6f74;
 
@@ -121,7 +143,11 @@ const OR_EQUAL: u64 = 0x6f725f657175616c;
 
 const R: u64 = 0x72;
 
+const SS_WHEN: u64 = 0x73735f7768656e;
+
 const VAL: u64 = 0x76616c;
+
+const _WHEN: u64 = 0x5f7768656e;
 
 fn logical(second: u64) -> Op {
     match second {
@@ -129,6 +155,14 @@ fn logical(second: u64) -> Op {
         EQ => Op::LogicalEq,
         NOT => Op::LogicalNot,
         OR => Op::LogicalOr,
+        _ => Op::Unknown,
+    }
+}
+
+fn maybe(second: u64) -> Op {
+    match second {
+        SS_WHEN => Op::MaybeLessWhen,
+        _WHEN => Op::MaybeLeWhen,
         _ => Op::Unknown,
     }
 }
@@ -144,9 +178,12 @@ fn long(first: u64, second: u64) -> Op {
         GREATER_ => only(Op::GreaterOrEqual, second, OR_EQUAL),
         LESS_OR_ => only(Op::LessOrEqual, second, EQUAL),
         LOGICAL_ => logical(second),
+        MAY_EQUA => only(Op::MayEqualWhen, second, L_WHEN),
+        MAYBE_LE => maybe(second),
         OF_INTER => only(Op::OfInterval, second, VAL),
         OF_NUMBE => only(Op::OfNumber, second, R),
         PARTIAL_ => only(Op::PartialCmp, second, CMP),
+        SINGLETO => only(Op::Singleton, second, N),
         STRICT_C => only(Op::StrictCmp, second, MP),
         _ => Op::Unknown,
     }

@@ -8,8 +8,11 @@ ghost use Rattle.text.specs.Decimal.{decimal, digits};
 ghost use Rattle.text.specs.End.{endText};
 ghost use Rattle.text.specs.Hex.{hexText};
 ghost use Rattle.ask.specs.Names.{orderName, signName};
+ghost use Rattle.ask.specs.Ranges.{rangeText, pairText};
 ghost use Rattle.ask.specs.Said.{placeOf, Says};
 ghost use Rattle.ask.specs.Number.{notUnderstood};
+use interval::Interval;
+use interval::Pair;
 use refusal::Refusal;
 use sign::Sign;
 use text::Put;
@@ -71,14 +74,29 @@ fn range_end(out: &mut [u8], made: usize, n: i64) -> usize
     after(text::end::put_end(out, made, n), made)
 }
 
-pub fn range(out: &mut [u8], made: usize, low: i64, high: i64) -> usize
-    ensures { λ r. ⌜ Says (ascii "[" ∷ (endText low ∷ (ascii ", " ∷ (endText high ∷ (ascii "]" ∷ []))))) (now (out .entry)) made (now (out .exit)) r ⌝ }
+fn range(out: &mut [u8], made: usize, low: i64, high: i64) -> usize
+    ensures { λ r. ⌜ Says (rangeText low high) (now (out .entry)) made (now (out .exit)) r ⌝ }
 {
     let a = word(out, made, b"[");
     let b = range_end(out, a, low);
     let c = word(out, b, b", ");
     let d = range_end(out, c, high);
     word(out, d, b"]")
+}
+
+pub fn interval(out: &mut [u8], made: usize, i: Interval) -> usize
+    ensures { λ r. ⌜ Says (rangeText (i .min) (i .max)) (now (out .entry)) made (now (out .exit)) r ⌝ }
+{
+    range(out, made, i.min, i.max)
+}
+
+// Two intervals, with a space between them.
+pub fn intervals(out: &mut [u8], made: usize, p: Pair) -> usize
+    ensures { λ r. ⌜ Says (pairText (p .left) (p .right)) (now (out .entry)) made (now (out .exit)) r ⌝ }
+{
+    let a = interval(out, made, p.left);
+    let b = word(out, a, b" ");
+    interval(out, b, p.right)
 }
 
 pub fn spacing(out: &mut [u8], made: usize, constant: i64, modulus: i64) -> usize

@@ -114,6 +114,33 @@ pub fn numbers(line: &[u8], at: usize, room: &mut [i64]) -> Many {
     r
 }
 
+// Numbers that end the line, as many as an operation takes.
+pub enum Operands {
+    None,
+    One(i64),
+    Two(i64, i64),
+    Four(i64, i64, i64, i64),
+    Not,
+}
+
+fn counted(n: usize, a: i64, b: i64, c: i64, d: i64) -> Operands {
+    match n {
+        0 => Operands::None,
+        1 => Operands::One(a),
+        2 => Operands::Two(a, b),
+        4 => Operands::Four(a, b, c, d),
+        _ => Operands::Not,
+    }
+}
+
+pub fn up_to_four(line: &[u8], at: usize) -> Operands {
+    let mut room = [0i64; 4];
+    match numbers(line, at, &mut room) {
+        Many::Are(n) => counted(n, room[0], room[1], room[2], room[3]),
+        Many::Not => Operands::Not,
+    }
+}
+
 // Bytes in hexadecimal, or `-` for none, stored in the lent room.
 pub enum HexBytes {
     // How many they are, and the place after them.
