@@ -3,4 +3,5 @@ pub mod Said
 pub mod Number
 pub mod Names
 pub mod Ranges
+pub mod Sheets
 pub mod Answer

@@ -36,25 +36,44 @@ fn of_one(op: Op, i: Interval) -> Answer {
     }
 }
 
+// Few arms a function: what a proof has to carry grows with their square.
 fn of_two(op: Op, i: Interval, j: Interval) -> Answer {
+    match op {
+        Op::Join => Answer::Range(ported::join(i, j)),
+        Op::Meet => Answer::Range(ported::meet(i, j)),
+        Op::PartialCmp => Answer::Order(ported::partial_cmp(i, j)),
+        Op::Widen => Answer::Range(ported::widen(i, j)),
+        Op::Narrow => Answer::Range(ported::narrow(i, j)),
+        _ => arithmetic(op, i, j),
+    }
+}
+
+fn arithmetic(op: Op, i: Interval, j: Interval) -> Answer {
+    match op {
+        Op::Add => Answer::Range(ported::add(i, j)),
+        Op::Sub => interval_told(ported::sub(i, j)),
+        Op::Mul => Answer::Range(ported::mul(i, j)),
+        Op::Rem => interval_told(ported::rem(i, j)),
+        _ => logic(op, i, j),
+    }
+}
+
+fn logic(op: Op, i: Interval, j: Interval) -> Answer {
     match op {
         Op::LogicalAnd => Answer::Range(ported::logical_and(i, j)),
         Op::LogicalOr => Answer::Range(ported::logical_or(i, j)),
         Op::StrictCmp => Answer::Order(ported::strict_cmp(i, j)),
         Op::WeakCmp => Answer::Order(ported::weak_cmp(i, j)),
+        _ => compared(op, i, j),
+    }
+}
+
+fn compared(op: Op, i: Interval, j: Interval) -> Answer {
+    match op {
         Op::Equals => Answer::Range(ported::equals(i, j)),
         Op::MayEqualWhen => Answer::Range(ported::may_equal_when(i, j)),
         Op::MaybeLessWhen => pair_told(ported::maybe_less_when(i, j)),
         Op::MaybeLeWhen => Answer::Ranges(ported::maybe_le_when(i, j)),
-        Op::PartialCmp => Answer::Order(ported::partial_cmp(i, j)),
-        Op::Join => Answer::Range(ported::join(i, j)),
-        Op::Meet => Answer::Range(ported::meet(i, j)),
-        Op::Widen => Answer::Range(ported::widen(i, j)),
-        Op::Narrow => Answer::Range(ported::narrow(i, j)),
-        Op::Add => Answer::Range(ported::add(i, j)),
-        Op::Sub => interval_told(ported::sub(i, j)),
-        Op::Mul => Answer::Range(ported::mul(i, j)),
-        Op::Rem => interval_told(ported::rem(i, j)),
         _ => Answer::NotUnderstood,
     }
 }
@@ -106,6 +125,12 @@ fn mended_two(op: Op, i: Interval, j: Interval) -> Answer {
         Op::Div => interval_told(mended::div(i, j)),
         Op::Rem => interval_told(mended::rem(i, j)),
         Op::Narrow => interval_told(mended::narrow(i, j)),
+        _ => mended_compared(op, i, j),
+    }
+}
+
+fn mended_compared(op: Op, i: Interval, j: Interval) -> Answer {
+    match op {
         Op::Equals => interval_told(mended::equals(i, j)),
         Op::Less => interval_told(mended::less(i, j)),
         Op::Greater => interval_told(mended::greater(i, j)),

@@ -12,6 +12,8 @@ const MENDED: u64 = 0x6d656e646564;
 
 const NUMBER: u64 = 0x6e756d626572;
 
+const SHEET: u64 = 0x7368656574;
+
 const SIGN: u64 = 0x7369676e;
 
 // A name of at most eight bytes has no second number.
@@ -26,6 +28,7 @@ fn say(line: &[u8], out: &mut [u8], made: usize) -> usize {
     match second {
         SHORT => match first {
             NUMBER => crate::number::say(line, at, out, made),
+            SHEET => crate::sheets::say(line, at, out, made),
             SIGN => answer::say(out, made, crate::signs::answer(line, at)),
             INTERVAL => answer::say(out, made, crate::intervals::answer(line, at)),
             MENDED => answer::say(out, made, crate::mended::answer(line, at)),

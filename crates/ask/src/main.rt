@@ -6,6 +6,7 @@ mod mended;
 mod names;
 mod number;
 mod say;
+mod sheets;
 mod signs;
 mod take;
 

@@ -8,6 +8,7 @@ ghost use Rattle.text.specs.Decimal.{decimal, digits};
 ghost use Rattle.text.specs.End.{endText};
 ghost use Rattle.text.specs.Hex.{hexText};
 ghost use Rattle.ask.specs.Names.{orderName, signName};
+ghost use Rattle.ask.specs.Sheets.{spaced};
 ghost use Rattle.ask.specs.Ranges.{rangeText, pairText};
 ghost use Rattle.ask.specs.Said.{placeOf, Says};
 ghost use Rattle.ask.specs.Number.{notUnderstood};
@@ -38,6 +39,26 @@ pub fn number(out: &mut [u8], made: usize, n: i64) -> usize
     ensures { λ r. ⌜ Says (decimal n ∷ []) (now (out .entry)) made (now (out .exit)) r ⌝ }
 {
     after(text::decimal::put_number(out, made, n), made)
+}
+
+fn after_space(out: &mut [u8], made: usize, n: i64) -> usize
+    ensures { λ r. ⌜ Says (ascii " " ∷ (decimal n ∷ [])) (now (out .entry)) made (now (out .exit)) r ⌝ }
+{
+    let e = word(out, made, b" ");
+    number(out, e, n)
+}
+
+// Numbers, each after a space.
+pub fn numbers(out: &mut [u8], made: usize, list: &[i64]) -> usize
+    ensures { λ r. ⌜ Says (spaced (now (list .entry))) (now (out .entry)) made (now (out .exit)) r ⌝ }
+{
+    let mut e = made;
+    let mut i: usize = 0;
+    while i < list.len() {
+        e = after_space(out, e, list[i]);
+        i = i + 1;
+    }
+    e
 }
 
 fn natural(out: &mut [u8], made: usize, n: u64) -> usize

@@ -133,6 +133,7 @@ fn of_one(op: Op, a: Sign) -> Answer {
     }
 }
 
+// Few arms a function: what a proof has to carry grows with their square.
 fn of_two(op: Op, a: Sign, b: Sign) -> Answer {
     match op {
         Op::Join => Answer::Sign(ported::join(a, b)),
@@ -140,11 +141,23 @@ fn of_two(op: Op, a: Sign, b: Sign) -> Answer {
         Op::PartialCmp => Answer::Order(ported::partial_cmp(a, b)),
         Op::Widen => Answer::Sign(ported::widen(a, b)),
         Op::Narrow => Answer::Sign(ported::narrow(a, b)),
+        _ => arithmetic(op, a, b),
+    }
+}
+
+fn arithmetic(op: Op, a: Sign, b: Sign) -> Answer {
+    match op {
         Op::Add => Answer::Sign(ported::add(a, b)),
         Op::Sub => Answer::Sign(ported::sub(a, b)),
         Op::Mul => Answer::Sign(ported::mul(a, b)),
         Op::Div => Answer::Sign(ported::div(a, b)),
         Op::Rem => Answer::Sign(ported::rem(a, b)),
+        _ => logic(op, a, b),
+    }
+}
+
+fn logic(op: Op, a: Sign, b: Sign) -> Answer {
+    match op {
         Op::LogicalAnd => Answer::Sign(ported::logical_and(a, b)),
         Op::LogicalOr => Answer::Sign(ported::logical_or(a, b)),
         Op::StrictCmp => Answer::Order(ported::strict_cmp(a, b)),
@@ -200,6 +213,12 @@ fn mended_two(op: Op, a: Sign, b: Sign) -> Answer {
     match op {
         Op::WeakCmp => Answer::Order(mended::weak_cmp(a, b)),
         Op::Div => Answer::Sign(mended::div(a, b)),
+        _ => compared(op, a, b),
+    }
+}
+
+fn compared(op: Op, a: Sign, b: Sign) -> Answer {
+    match op {
         Op::Equals => Answer::Sign(mended::equals(a, b)),
         Op::Less => Answer::Sign(mended::less(a, b)),
         Op::Greater => Answer::Sign(mended::greater(a, b)),

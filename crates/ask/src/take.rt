@@ -1,7 +1,9 @@
 // Operands of a question: each stands after one space.
 ghost use mathlib.Core.Path.{_≡_};
+ghost use Prim.Native.Nat.{_≤_};
+ghost use lib.ListN.{length};
 ghost use Rattle.text.specs.Word.{firstCode, secondCode};
-ghost use Rattle.ask.specs.Taken.{numberAfter, oneAfter, twoAfter, fourAfter, nameAfter, nextAfter};
+ghost use Rattle.ask.specs.Taken.{count, byteCount, numberAfter, oneAfter, twoAfter, fourAfter, nameAfter, nextAfter};
 use text::decimal::Got;
 use text::hex::Bytes;
 use text::word::Word;
@@ -90,7 +92,9 @@ pub enum Many {
     Not,
 }
 
-pub fn numbers(line: &[u8], at: usize, room: &mut [i64]) -> Many {
+pub fn numbers(line: &[u8], at: usize, room: &mut [i64]) -> Many
+    ensures { λ r. ⌜ count r ≤ length (now (room .entry)) ⌝ }
+{
     let mut i = at;
     let mut n: usize = 0;
     let r = loop {
@@ -149,7 +153,9 @@ pub enum HexBytes {
     Not,
 }
 
-pub fn bytes(line: &[u8], at: usize, room: &mut [u8]) -> HexBytes {
+pub fn bytes(line: &[u8], at: usize, room: &mut [u8]) -> HexBytes
+    ensures { λ r. ⌜ byteCount r ≤ length (now (room .entry)) ⌝ }
+{
     if line.len() <= at {
         return HexBytes::Not;
     }
@@ -160,7 +166,9 @@ pub fn bytes(line: &[u8], at: usize, room: &mut [u8]) -> HexBytes {
     }
 }
 
-fn bytes_at(line: &[u8], at: usize, room: &mut [u8]) -> HexBytes {
+fn bytes_at(line: &[u8], at: usize, room: &mut [u8]) -> HexBytes
+    ensures { λ r. ⌜ byteCount r ≤ length (now (room .entry)) ⌝ }
+{
     if line.len() <= at {
         return HexBytes::Not;
     }
@@ -173,7 +181,9 @@ fn bytes_at(line: &[u8], at: usize, room: &mut [u8]) -> HexBytes {
     }
 }
 
-fn some_bytes(n: usize, next: usize) -> HexBytes {
+fn some_bytes(n: usize, next: usize) -> HexBytes
+    ensures { λ r. ⌜ byteCount r ≡ n ⌝ }
+{
     if n == 0 {
         HexBytes::Not
     } else {
