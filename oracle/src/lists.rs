@@ -1,8 +1,7 @@
 //! The fixed lists: every corner once, thinned where there are too many, and random questions after them.
 use crate::questions::{
-    operations, question, Operation, Random, Takes, INTERVAL, MENDED_CONGRUENCE, MENDED_INTERVAL, SIGNS,
+    operations, question, Operation, Random, Takes, CONGRUENCE, MENDED_CONGRUENCE, SIGNS, TRANSFER,
 };
-use crate::questions::{CONGRUENCE, TRANSFER};
 use crate::words::listed;
 
 const ENDS: [i64; 7] = [i64::MIN, i64::MIN + 1, -1, 0, 1, i64::MAX - 1, i64::MAX];
@@ -114,18 +113,15 @@ fn transfers(r: &mut Random) -> Vec<String> {
 
 /// One in how many pairs stays, and how many random questions follow.
 fn sizes(family: &str) -> (u64, u64) {
-    let thin = |all: &[Operation], takes: Takes, values: usize, room: usize| {
-        let many = all.iter().filter(|o| o.1 == takes).count() * values * values;
-        (many / room).max(1) as u64
+    let thin = |all: &[Operation]| {
+        let pairs = all.iter().filter(|o| o.1 == Takes::TwoCongruences).count() * congruences().len().pow(2);
+        (pairs / 5000).max(1) as u64
     };
     match family {
-        "interval" => (thin(INTERVAL, Takes::TwoIntervals, 49, 7500), 1500),
-        "congruence" => (thin(CONGRUENCE, Takes::TwoCongruences, congruences().len(), 5000), 1200),
-        "mended-interval" => (thin(MENDED_INTERVAL, Takes::TwoIntervals, 49, 5000), 1000),
-        "mended-congruence" => (
-            thin(MENDED_CONGRUENCE, Takes::TwoCongruences, congruences().len(), 5000),
-            1200,
-        ),
+        "interval" => (1, 1500),
+        "congruence" => (thin(CONGRUENCE), 1200),
+        "mended-interval" => (1, 1000),
+        "mended-congruence" => (thin(MENDED_CONGRUENCE), 1200),
         "transfer" => (1, 800),
         "sheet" => (1, 900),
         _ => (1, 100),

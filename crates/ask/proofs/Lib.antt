@@ -1,3 +1,5 @@
 pub mod Saying
+pub mod Sheeting
+pub mod Spaced
 pub mod Taking
 pub mod Claims

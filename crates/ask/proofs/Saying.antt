@@ -23,6 +23,10 @@ pub says-one : (out : List ℕ) (at : ℕ) (t left : List ℕ) (p : Put) (end : 
 unfolding output place
 says-one out at t left p end e f g = record { leaves = f; ends = g ∙ ap (λ (q : Put). placeOf q at) e ∙ put-next out at t }
 
+pub nothing : (out : List ℕ) (at : ℕ) → Says [] out at out at
+unfolding output place
+nothing out at = record { leaves = refl; ends = refl }
+
 output-append : (ts us : List (List ℕ)) (out : List ℕ) (at : ℕ) → output (ts ++ us) out at ≡ output us (output ts out at) (place ts out at)
 unfolding output place
 output-append [] us out at = refl

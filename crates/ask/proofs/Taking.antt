@@ -1,13 +1,16 @@
 -- A name that stands after a space, or doesn't, and what its two numbers say of it.
-use Prim.Native.Nat.{ℕ, _+_, _≤_}
+use Prim.Native.Nat.{ℕ, _+_, _*_, _≤_}
 use Prim.Native.String.{String}
 use mathlib.Core.Path.{_≡_, refl, sym, ap, _∙_}
 use mathlib.Core.List.{List, []}
 use mathlib.Core.Bool.{Bool, true, false, _&&_}
 use native.Mathlib.Omega.{arith}
-use lib.Dec.{eqb}
+use lib.Dec.{eqb, leb}
 use lib.ListN.{length, getD, drop, List·getD-eq-default}
-use borrow.Author.Tests.{eq-eqb, ne-eqb}
+use borrow.Author.Tests.{eq-eqb, ne-eqb, leb-true}
+use Rattle.whole.specs.Choice.{pick}
+use Rattle.text.specs.declared.hex.Bytes.the-variants.{Are, NoRoom}
+use Rattle.text.specs.Hex.{hexBytes, hexAnswer}
 use Rattle.text.specs.Ascii.{ascii}
 use Rattle.text.specs.Word.{letters, wordOf, firstCode, secondCode}
 use Rattle.text.proofs.Words.{none-first, none-second}
@@ -38,6 +41,20 @@ module _ (s : List ℕ) (at : ℕ) where
     -- no name: its numbers are 0
     pub nameless : (n f g : ℕ) → (n ≡ at) × (f ≡ 0) × (g ≡ 0) → (n ≡ nextAfter s at) × (f ≡ firstCode (nameAfter s at)) × (g ≡ secondCode (nameAfter s at))
     nameless n f g p = (p .0 ∙ sym next-none, p .1 ∙ sym (ap firstCode name-none ∙ none-first), p .2 ∙ sym (ap secondCode name-none ∙ none-second))
+
+-- bytes that were stored had room
+pub fitting : (s : List ℕ) (at : ℕ) (out : List ℕ) (n next : ℕ) → hexAnswer s at out ≡ Are n next → n ≤ length out
+unfolding hexAnswer
+fitting s at out n next e = by-test (leb size (length out)) refl e
+  where
+    size : ℕ
+    size = length (hexBytes (drop at s))
+
+    by-test : (t : Bool) → leb size (length out) ≡ t → pick t (Are size (at + 2 * size)) NoRoom ≡ Are n next → n ≤ length out
+    by-test true l h =
+        let m : n ≡ size = cc in
+        omega (arith, leb-true size (length out) l)
+    by-test false l h = let z : _≡_ {A = ℕ} 0 1 = cc in absurd (omega arith)
 
 and-no : (t : Bool) → (t && false) ≡ false
 and-no true = refl

@@ -1,4 +1,7 @@
 pub mod Taken
 pub mod Said
 pub mod Number
-pub mod Order
+pub mod Names
+pub mod Ranges
+pub mod Sheets
+pub mod Answer

@@ -16,6 +16,10 @@ use Rattle.ask.specs.declared.take.Pair.{Pair}
 use Rattle.ask.specs.declared.take.Pair.the-variants as pair
 use Rattle.ask.specs.declared.take.Single.{Single}
 use Rattle.ask.specs.declared.take.Single.the-variants as single
+use Rattle.ask.specs.declared.take.Many.{Many}
+use Rattle.ask.specs.declared.take.Many.the-variants as many
+use Rattle.ask.specs.declared.take.HexBytes.{HexBytes}
+use Rattle.ask.specs.declared.take.HexBytes.the-variants as hexBytes
 use Rattle.ask.specs.declared.take.Quad.{Quad}
 use Rattle.ask.specs.declared.take.Quad.the-variants as quad
 
@@ -46,6 +50,15 @@ unfoldable pub fourAfter : List ℕ → ℕ → Quad
 fourAfter s at =
     andThen (numberAfter s at) quad.Not
     (λ a p. andThen (numberAfter s p) quad.Not (λ b q. fourOf a b (twoAfter s q)))
+
+-- how many numbers or bytes were stored
+abbrev pub count : Many → ℕ
+count (many.Are n) = n
+count many.Not = 0
+
+abbrev pub byteCount : HexBytes → ℕ
+byteCount (hexBytes.Are n next) = n
+byteCount hexBytes.Not = 0
 
 -- a name, which is empty if there is none, and the place after it
 unfoldable pub nameAfter : List ℕ → ℕ → List ℕ

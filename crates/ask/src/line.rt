@@ -1,11 +1,20 @@
 // One line: its first word names the family that answers the rest.
+use crate::answer;
 use text::word;
 
 // A line that is longer is not understood.
 const LONGEST: usize = 32768;
 
 // The families' names, as word::word_at has them.
+const INTERVAL: u64 = 0x696e74657276616c;
+
+const MENDED: u64 = 0x6d656e646564;
+
 const NUMBER: u64 = 0x6e756d626572;
+
+const SHEET: u64 = 0x7368656574;
+
+const SIGN: u64 = 0x7369676e;
 
 // A name of at most eight bytes has no second number.
 const SHORT: u64 = 0;
@@ -19,6 +28,10 @@ fn say(line: &[u8], out: &mut [u8], made: usize) -> usize {
     match second {
         SHORT => match first {
             NUMBER => crate::number::say(line, at, out, made),
+            SHEET => crate::sheets::say(line, at, out, made),
+            SIGN => answer::say(out, made, crate::signs::answer(line, at)),
+            INTERVAL => answer::say(out, made, crate::intervals::answer(line, at)),
+            MENDED => answer::say(out, made, crate::mended::answer(line, at)),
             _ => crate::say::not_understood(out, made),
         },
         _ => crate::say::not_understood(out, made),

@@ -1,7 +1,13 @@
 // Answers the questions on standard input, a line each: the name of a family and of an operation, and its operands.
+mod answer;
+mod intervals;
 mod line;
+mod mended;
+mod names;
 mod number;
 mod say;
+mod sheets;
+mod signs;
 mod take;
 
 ghost use mathlib.Core.Path.{_≡_};

@@ -7,10 +7,15 @@ ghost use Rattle.whole.specs.Choice.{pick};
 ghost use Rattle.text.specs.Decimal.{decimal, digits};
 ghost use Rattle.text.specs.End.{endText};
 ghost use Rattle.text.specs.Hex.{hexText};
-ghost use Rattle.ask.specs.Order.{orderName};
+ghost use Rattle.ask.specs.Names.{orderName, signName};
+ghost use Rattle.ask.specs.Sheets.{spaced};
+ghost use Rattle.ask.specs.Ranges.{rangeText, pairText};
 ghost use Rattle.ask.specs.Said.{placeOf, Says};
 ghost use Rattle.ask.specs.Number.{notUnderstood};
+use interval::Interval;
+use interval::Pair;
 use refusal::Refusal;
+use sign::Sign;
 use text::Put;
 use whole::Order;
 
@@ -34,6 +39,26 @@ pub fn number(out: &mut [u8], made: usize, n: i64) -> usize
     ensures { λ r. ⌜ Says (decimal n ∷ []) (now (out .entry)) made (now (out .exit)) r ⌝ }
 {
     after(text::decimal::put_number(out, made, n), made)
+}
+
+fn after_space(out: &mut [u8], made: usize, n: i64) -> usize
+    ensures { λ r. ⌜ Says (ascii " " ∷ (decimal n ∷ [])) (now (out .entry)) made (now (out .exit)) r ⌝ }
+{
+    let e = word(out, made, b" ");
+    number(out, e, n)
+}
+
+// Numbers, each after a space.
+pub fn numbers(out: &mut [u8], made: usize, list: &[i64]) -> usize
+    ensures { λ r. ⌜ Says (spaced (now (list .entry))) (now (out .entry)) made (now (out .exit)) r ⌝ }
+{
+    let mut e = made;
+    let mut i: usize = 0;
+    while i < list.len() {
+        e = after_space(out, e, list[i]);
+        i = i + 1;
+    }
+    e
 }
 
 fn natural(out: &mut [u8], made: usize, n: u64) -> usize
@@ -70,14 +95,29 @@ fn range_end(out: &mut [u8], made: usize, n: i64) -> usize
     after(text::end::put_end(out, made, n), made)
 }
 
-pub fn range(out: &mut [u8], made: usize, low: i64, high: i64) -> usize
-    ensures { λ r. ⌜ Says (ascii "[" ∷ (endText low ∷ (ascii ", " ∷ (endText high ∷ (ascii "]" ∷ []))))) (now (out .entry)) made (now (out .exit)) r ⌝ }
+fn range(out: &mut [u8], made: usize, low: i64, high: i64) -> usize
+    ensures { λ r. ⌜ Says (rangeText low high) (now (out .entry)) made (now (out .exit)) r ⌝ }
 {
     let a = word(out, made, b"[");
     let b = range_end(out, a, low);
     let c = word(out, b, b", ");
     let d = range_end(out, c, high);
     word(out, d, b"]")
+}
+
+pub fn interval(out: &mut [u8], made: usize, i: Interval) -> usize
+    ensures { λ r. ⌜ Says (rangeText (i .min) (i .max)) (now (out .entry)) made (now (out .exit)) r ⌝ }
+{
+    range(out, made, i.min, i.max)
+}
+
+// Two intervals, with a space between them.
+pub fn intervals(out: &mut [u8], made: usize, p: Pair) -> usize
+    ensures { λ r. ⌜ Says (pairText (p .left) (p .right)) (now (out .entry)) made (now (out .exit)) r ⌝ }
+{
+    let a = interval(out, made, p.left);
+    let b = word(out, a, b" ");
+    interval(out, b, p.right)
 }
 
 pub fn spacing(out: &mut [u8], made: usize, constant: i64, modulus: i64) -> usize
@@ -102,6 +142,21 @@ pub fn order(out: &mut [u8], made: usize, o: Order) -> usize
         Order::Equal => word(out, made, b"Equal"),
         Order::Greater => word(out, made, b"Greater"),
         Order::None => word(out, made, b"None"),
+    }
+}
+
+pub fn sign(out: &mut [u8], made: usize, s: Sign) -> usize
+    ensures { λ r. ⌜ Says (signName s ∷ []) (now (out .entry)) made (now (out .exit)) r ⌝ }
+{
+    match s {
+        Sign::Top => word(out, made, b"Top"),
+        Sign::Bottom => word(out, made, b"Bottom"),
+        Sign::Negative => word(out, made, b"Negative"),
+        Sign::Zero => word(out, made, b"Zero"),
+        Sign::Positive => word(out, made, b"Positive"),
+        Sign::NonNeg => word(out, made, b"NonNeg"),
+        Sign::NonZero => word(out, made, b"NonZero"),
+        Sign::NonPos => word(out, made, b"NonPos"),
     }
 }
 

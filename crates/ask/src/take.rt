@@ -1,7 +1,9 @@
 // Operands of a question: each stands after one space.
 ghost use mathlib.Core.Path.{_≡_};
+ghost use Prim.Native.Nat.{_≤_};
+ghost use lib.ListN.{length};
 ghost use Rattle.text.specs.Word.{firstCode, secondCode};
-ghost use Rattle.ask.specs.Taken.{numberAfter, oneAfter, twoAfter, fourAfter, nameAfter, nextAfter};
+ghost use Rattle.ask.specs.Taken.{count, byteCount, numberAfter, oneAfter, twoAfter, fourAfter, nameAfter, nextAfter};
 use text::decimal::Got;
 use text::hex::Bytes;
 use text::word::Word;
@@ -90,7 +92,9 @@ pub enum Many {
     Not,
 }
 
-pub fn numbers(line: &[u8], at: usize, room: &mut [i64]) -> Many {
+pub fn numbers(line: &[u8], at: usize, room: &mut [i64]) -> Many
+    ensures { λ r. ⌜ count r ≤ length (now (room .entry)) ⌝ }
+{
     let mut i = at;
     let mut n: usize = 0;
     let r = loop {
@@ -114,6 +118,33 @@ pub fn numbers(line: &[u8], at: usize, room: &mut [i64]) -> Many {
     r
 }
 
+// Numbers that end the line, as many as an operation takes.
+pub enum Operands {
+    None,
+    One(i64),
+    Two(i64, i64),
+    Four(i64, i64, i64, i64),
+    Not,
+}
+
+fn counted(n: usize, a: i64, b: i64, c: i64, d: i64) -> Operands {
+    match n {
+        0 => Operands::None,
+        1 => Operands::One(a),
+        2 => Operands::Two(a, b),
+        4 => Operands::Four(a, b, c, d),
+        _ => Operands::Not,
+    }
+}
+
+pub fn up_to_four(line: &[u8], at: usize) -> Operands {
+    let mut room = [0i64; 4];
+    match numbers(line, at, &mut room) {
+        Many::Are(n) => counted(n, room[0], room[1], room[2], room[3]),
+        Many::Not => Operands::Not,
+    }
+}
+
 // Bytes in hexadecimal, or `-` for none, stored in the lent room.
 pub enum HexBytes {
     // How many they are, and the place after them.
@@ -122,7 +153,9 @@ pub enum HexBytes {
     Not,
 }
 
-pub fn bytes(line: &[u8], at: usize, room: &mut [u8]) -> HexBytes {
+pub fn bytes(line: &[u8], at: usize, room: &mut [u8]) -> HexBytes
+    ensures { λ r. ⌜ byteCount r ≤ length (now (room .entry)) ⌝ }
+{
     if line.len() <= at {
         return HexBytes::Not;
     }
@@ -133,7 +166,9 @@ pub fn bytes(line: &[u8], at: usize, room: &mut [u8]) -> HexBytes {
     }
 }
 
-fn bytes_at(line: &[u8], at: usize, room: &mut [u8]) -> HexBytes {
+fn bytes_at(line: &[u8], at: usize, room: &mut [u8]) -> HexBytes
+    ensures { λ r. ⌜ byteCount r ≤ length (now (room .entry)) ⌝ }
+{
     if line.len() <= at {
         return HexBytes::Not;
     }
@@ -146,7 +181,9 @@ fn bytes_at(line: &[u8], at: usize, room: &mut [u8]) -> HexBytes {
     }
 }
 
-fn some_bytes(n: usize, next: usize) -> HexBytes {
+fn some_bytes(n: usize, next: usize) -> HexBytes
+    ensures { λ r. ⌜ byteCount r ≡ n ⌝ }
+{
     if n == 0 {
         HexBytes::Not
     } else {

@@ -1,0 +1,32 @@
+-- What the family `sheet` says: the numbers of the steps, each after a space; hexadecimal bytes; or a refusal.
+use Prim.Native.Nat.{ℕ}
+use mathlib.Core.List.{List, [], _∷_}
+use lib.Dec.{leb}
+use lib.IntN.{ℤ}
+use lib.ListN.{length}
+use Rattle.whole.specs.Choice.{pick}
+use Rattle.text.specs.Ascii.{ascii}
+use Rattle.text.specs.Decimal.{decimal, digits}
+use Rattle.text.specs.Hex.{hexText}
+use Rattle.sheet.specs.Got.{Got, got, refused}
+use Rattle.sheet.specs.Step.{Step}
+use Rattle.sheet.specs.Sheet.{flat}
+use Rattle.sheet.specs.Answer.{Told, done, refusedAt, refusedBy, Plan, fill, stop}
+
+unfoldable pub spaced : List ℤ → List (List ℕ)
+spaced [] = []
+spaced (n ∷ ns) = ascii " " ∷ (decimal n ∷ spaced ns)
+
+abbrev pub refusedText : Told → List (List ℕ)
+refusedText (refusedAt r p) = ascii "refused at " ∷ (digits p ∷ (ascii " by " ∷ (digits r ∷ [])))
+refusedText (refusedBy r) = ascii "refused by " ∷ (digits r ∷ [])
+refusedText (done n) = []
+
+abbrev pub readSaid : Got (List Step) → List (List ℕ)
+readSaid (got xs end) = ascii "read" ∷ spaced (flat xs)
+readSaid (refused r p) = refusedText (refusedAt r p)
+
+-- 5,378 bytes are room for any sheet (`sheet-size` of `sheet`)
+abbrev pub writeSaid : Plan ℕ → List (List ℕ)
+writeSaid (fill n bs) = pick (leb (length bs) 5378) (ascii "written " ∷ (hexText bs ∷ [])) (refusedText (refusedBy 16))
+writeSaid (stop t) = refusedText t

@@ -1,0 +1,86 @@
+// The family `sheet`: bytes are hexadecimal digits, a step is four numbers.
+ghost use Rattle.sheet.specs.Sheet.{parse};
+ghost use Rattle.sheet.specs.Answer.{writing};
+ghost use Rattle.ask.specs.Said.{Says};
+ghost use Rattle.ask.specs.Sheets.{readSaid, writeSaid};
+use crate::take::HexBytes;
+use crate::take::Many;
+use sheet::ReadAnswer;
+use sheet::WriteAnswer;
+
+// The operations' names, as text::word has them.
+const READ: u64 = 0x72656164;
+
+const WRITE: u64 = 0x7772697465;
+
+const SHORT: u64 = 0;
+
+// What reading the bytes answers: 1,024 numbers are room for any sheet.
+fn read_bytes(bytes: &[u8], out: &mut [u8], made: usize) -> usize
+    ensures { λ r. ⌜ Says (readSaid (parse (now (bytes .entry)))) (now (out .entry)) made (now (out .exit)) r ⌝ }
+{
+    let mut steps = [0i64; 1024];
+    match sheet::read(bytes, &mut steps) {
+        ReadAnswer::Steps(n) => {
+            let e = crate::say::word(out, made, b"read");
+            crate::say::numbers(out, e, &steps[0..n * 4])
+        }
+        ReadAnswer::RefusedAt(why, place) => crate::say::refused_at(out, made, place, why),
+        ReadAnswer::Refused(why) => crate::say::refused(out, made, why),
+    }
+}
+
+// A line has room for no more bytes than that.
+fn read(line: &[u8], at: usize, out: &mut [u8], made: usize) -> usize {
+    let mut room = [0u8; 16384];
+    match crate::take::bytes(line, at, &mut room) {
+        HexBytes::Are(n, next) => {
+            if next == line.len() {
+                read_bytes(&room[0..n], out, made)
+            } else {
+                crate::say::not_understood(out, made)
+            }
+        }
+        HexBytes::Not => crate::say::not_understood(out, made),
+    }
+}
+
+// What writing the numbers answers: no sheet takes more bytes than that.
+fn write_numbers(steps: &[i64], out: &mut [u8], made: usize) -> usize
+    ensures { λ r. ⌜ Says (writeSaid (writing (now (steps .entry)))) (now (out .entry)) made (now (out .exit)) r ⌝ }
+{
+    let mut bytes = [0u8; 5378];
+    match sheet::write(steps, &mut bytes) {
+        WriteAnswer::Bytes(n) => {
+            let e = crate::say::word(out, made, b"written ");
+            crate::say::bytes(out, e, &bytes[0..n])
+        }
+        WriteAnswer::RefusedAt(why, step) => crate::say::refused_at(out, made, step, why),
+        WriteAnswer::Refused(why) => crate::say::refused(out, made, why),
+    }
+}
+
+// A line has room for no more numbers than that.
+fn write(line: &[u8], at: usize, out: &mut [u8], made: usize) -> usize {
+    let mut room = [0i64; 16384];
+    match crate::take::numbers(line, at, &mut room) {
+        Many::Are(n) => write_numbers(&room[0..n], out, made),
+        Many::Not => crate::say::not_understood(out, made),
+    }
+}
+
+// The answer to what stands after the family's name.
+pub fn say(line: &[u8], at: usize, out: &mut [u8], made: usize) -> usize {
+    let op = crate::take::name(line, at);
+    let first = op.first;
+    let second = op.second;
+    let next = op.next;
+    match second {
+        SHORT => match first {
+            READ => read(line, next, out, made),
+            WRITE => write(line, next, out, made),
+            _ => crate::say::not_understood(out, made),
+        },
+        _ => crate::say::not_understood(out, made),
+    }
+}
