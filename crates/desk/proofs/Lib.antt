@@ -2,3 +2,4 @@ pub mod Demand
 pub mod Fives
 pub mod Walk
 pub mod Answers
+pub mod Claims
