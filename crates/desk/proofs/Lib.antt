@@ -3,3 +3,4 @@ pub mod Fives
 pub mod Walk
 pub mod Answers
 pub mod Claims
+pub mod ClaimsNumbers
