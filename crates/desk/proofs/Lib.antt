@@ -2,3 +2,5 @@ pub mod Demand
 pub mod Fives
 pub mod Walk
 pub mod Answers
+pub mod Claims
+pub mod ClaimsNumbers
