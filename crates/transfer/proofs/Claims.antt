@@ -15,16 +15,14 @@ use Rattle.whole.specs.declared.Order.the-variants.{Less, Equal, Greater, None}
 use Rattle.whole.proofs.Decides.{le-test, lt-test, both, either, is-false, yes}
 use Rattle.whole.proofs.Shapes.{lin}
 use Rattle.refusal.proofs.Claims.{number-tells}
-use Rattle.refusal.specs.Number.{numberOf}
 use Rattle.interval.specs.declared.Interval.{Interval}
 use Rattle.interval.specs.declared.IntervalAnswer.{IntervalAnswer}
 use Rattle.interval.specs.declared.IntervalAnswer.the-variants as ranges
-use Rattle.interval.specs.Set.{top, single}
+use Rattle.interval.specs.Set.{top}
 use Rattle.interval.specs.Answer.{Answer, is, refused, told}
 use Rattle.interval.specs.Mended.{andV, orV, notV}
 use Rattle.interval.specs.Ported as I
 use Rattle.congruence.specs.declared.Congruence.{Congruence}
-use Rattle.congruence.specs.declared.CongruenceAnswer.{CongruenceAnswer}
 use Rattle.congruence.specs.declared.CongruenceAnswer.the-variants.{Is, Refused}
 use Rattle.congruence.specs.Set.{domain?}
 use Rattle.congruence.specs.Set as S

@@ -1,14 +1,11 @@
 -- Every number is an operator's or outside 2 to 15; and by which numbers the answer of an operator that the Rust has an arm for may be refused.
-use mathlib.Core.Path.{_≡_, refl, sym, ap, _∙_}
+use mathlib.Core.Path.{_≡_, refl}
 use mathlib.Core.Logic.{_⊎_, inl, inr}
-use mathlib.Core.Bool.{Bool, true, false, _&&_, _||_}
-use native.Mathlib.Omega.{arith}
+use mathlib.Core.Bool.{true, false}
 use Prim.Native.Nat.{ℕ, zero, suc, _≤_}
-use lib.Dec.{eqb}
 use lib.IntN.{ℤ, pos, negsuc}
 use lib.Signed.{_≤ℤ_, _<ℤ_}
-use Rattle.whole.specs.Choice.{pick}
-use Rattle.whole.specs.Test.{_<?_, _≟_}
+use Rattle.whole.specs.Test.{_≟_}
 use Rattle.whole.proofs.Decides.{lt-test, either, is-true, yes, unequal}
 use Rattle.whole.proofs.Shapes.{lin}
 use Rattle.transfer.specs.Operator.{outside?}

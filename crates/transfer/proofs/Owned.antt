@@ -1,5 +1,4 @@
 -- The operations that the transfers call are refused by 2 and 3 alone, on values of the domain.
-use mathlib.Core.Path.{_≡_, refl}
 use mathlib.Core.Bool.{Bool, true, false, _&&_, _||_}
 use Prim.Native.Nat.{ℕ}
 use lib.IntN.{ℤ, pos}

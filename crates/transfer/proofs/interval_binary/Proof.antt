@@ -1,5 +1,5 @@
 use mir.Facts.{toZ-ofZ}
-use mathlib.Core.Path.{_≡_, refl}
+use mathlib.Core.Path.{_≡_}
 use Rattle.whole.specs.Whole.{up}
 use Rattle.whole.specs.Test.{_≟_}
 use Rattle.transfer.specs.Ranges.{intervalBinary}
