@@ -1,0 +1,189 @@
+-- The definitions by cases, each case as a rule for `search`: `cases` is what it is handed where the code matches.
+use mathlib.Core.Path.{_≡_, refl, sym, ap, _∙_}
+use mathlib.Core.Bool.{Bool, true, false, not}
+use lib.IntN.{ℤ, pos, natAbs}
+use native.Mathlib.Nat.{pos-of-ne-zero}
+use native.Mathlib.Omega.{arith}
+use Prim.Native.Nat.{ℕ, _<_}
+use lib.Signed.{remZ, _<ℤ_}
+use borrow.Author.Tests.{ne-eqb}
+use Rattle.whole.specs.Choice.{pick}
+use Rattle.whole.specs.Range.{fits?}
+use Rattle.whole.proofs.Linear.{ints}
+use mir.Syntax.{Width, w64}
+use Rattle.whole.specs.Test.{_≟_}
+use Rattle.whole.specs.Divides.{gcd, floorRem}
+use Rattle.whole.specs.Exact.{exactly}
+use Rattle.whole.specs.declared.Exact.{Exact}
+use Rattle.whole.specs.declared.Exact.the-variants as exact
+use Rattle.refusal.specs.declared.Refusal.{Refusal}
+use Rattle.refusal.specs.declared.Refusal.the-variants.{DoesNotFit}
+use Rattle.congruence.specs.declared.Congruence.{Congruence}
+use Rattle.congruence.specs.declared.CongruenceAnswer.{CongruenceAnswer}
+use Rattle.congruence.specs.declared.CongruenceAnswer.the-variants.{Is, Refused}
+use Rattle.congruence.specs.declared.TruthAnswer.{TruthAnswer}
+use Rattle.congruence.specs.declared.TruthAnswer.the-variants as truths
+use Rattle.congruence.specs.Set.{cong, top, bottom}
+use Rattle.congruence.specs.Numbers.{gcdThen, absThen}
+use Rattle.congruence.specs.Mended as mended
+use Rattle.congruence.specs.Ported as ported
+
+module _ (x y : Exact) where
+  pub gcd-none : x ≡ exact.DoesNotFit → _≡_ {A = Exact} exact.DoesNotFit (gcdThen w64 x y)
+  unfolding gcdThen
+  gcd-none p = rw p refl
+
+  pub gcd-none-2 : (a : ℤ) → x ≡ exact.Is a → y ≡ exact.DoesNotFit → _≡_ {A = Exact} exact.DoesNotFit (gcdThen w64 x y)
+  unfolding gcdThen
+  gcd-none-2 a p q = rw (p, q) refl
+
+  pub gcd-some : (a b : ℤ) (r : Exact) → x ≡ exact.Is a → y ≡ exact.Is b → r ≡ exactly w64 (pos (gcd (natAbs a) (natAbs b))) → r ≡ gcdThen w64 x y
+  unfolding gcdThen
+  gcd-some a b r p q h = rw (p, q) h
+
+pub abs-none : (x : Exact) → x ≡ exact.DoesNotFit → _≡_ {A = Exact} exact.DoesNotFit (absThen w64 x)
+unfolding absThen
+abs-none x p = rw p refl
+
+pub abs-some : (x : Exact) (a : ℤ) (r : Exact) → x ≡ exact.Is a → r ≡ exactly w64 (pos (natAbs a)) → r ≡ absThen w64 x
+unfolding absThen
+abs-some x a r p h = rw p h
+
+-- ---- ported
+
+module _ (c m : Exact) where
+  pub made-none : m ≡ exact.DoesNotFit → Refused DoesNotFit ≡ ported.made c m
+  unfolding ported.made
+  made-none p = rw p refl
+
+  pub made-none-2 : (n : ℤ) → m ≡ exact.Is n → c ≡ exact.DoesNotFit → Refused DoesNotFit ≡ ported.made c m
+  unfolding ported.made
+  made-none-2 n p q = rw (p, q) refl
+
+  pub made-some : (k n : ℤ) (v : Congruence) → c ≡ exact.Is k → m ≡ exact.Is n → v ≡ ported.normalize k n → Is v ≡ ported.made c m
+  unfolding ported.made
+  made-some k n v p q h = rw (p, q) (ap Is h)
+
+  pub held-some : (k n : ℤ) (r : CongruenceAnswer) → c ≡ exact.Is k → m ≡ exact.Is n → r ≡ ported.held k n → r ≡ ported.asserted c m
+  unfolding ported.asserted
+  held-some k n r p q h = rw (p, q) h
+
+  pub held-none : c ≡ exact.DoesNotFit → Refused DoesNotFit ≡ ported.asserted c m
+  unfolding ported.asserted
+  held-none p = rw p refl
+
+  pub held-none-2 : (k : ℤ) → c ≡ exact.Is k → m ≡ exact.DoesNotFit → Refused DoesNotFit ≡ ported.asserted c m
+  unfolding ported.asserted
+  held-none-2 k p q = rw (p, q) refl
+
+module _ (d g : Exact) where
+  pub indivisible-none : g ≡ exact.DoesNotFit → truths.Refused DoesNotFit ≡ ported.indivisible d g
+  unfolding ported.indivisible
+  indivisible-none p = rw p refl
+
+  pub indivisible-none-2 : (n : ℤ) → g ≡ exact.Is n → d ≡ exact.DoesNotFit → truths.Refused DoesNotFit ≡ ported.indivisible d g
+  unfolding ported.indivisible
+  indivisible-none-2 n p q = rw (p, q) refl
+
+  pub indivisible-some : (k n : ℤ) (t : Bool) → d ≡ exact.Is k → g ≡ exact.Is n → t ≡ not (remZ k n ≟ pos 0) → truths.Is t ≡ ported.indivisible d g
+  unfolding ported.indivisible
+  indivisible-some k n t p q h = rw (p, q) (ap truths.Is h)
+
+module _ (t : TruthAnswer) (x y : CongruenceAnswer) where
+  pub on-refused : (r : Refusal) → t ≡ truths.Refused r → Refused r ≡ ported.onTruth t x y
+  unfolding ported.onTruth
+  on-refused r p = rw p refl
+
+  pub on-true : (b : Bool) → t ≡ truths.Is b → b ≡ true → x ≡ ported.onTruth t x y
+  unfolding ported.onTruth
+  on-true b p q = rw (p, q) refl
+
+  pub on-false : (b : Bool) → t ≡ truths.Is b → b ≡ false → y ≡ ported.onTruth t x y
+  unfolding ported.onTruth
+  on-false b p q = rw (p, q) refl
+
+pub reduced-none : (c : ℤ) (m : Exact) → m ≡ exact.DoesNotFit → Refused DoesNotFit ≡ ported.reduced c m
+unfolding ported.reduced
+reduced-none c m p = rw p refl
+
+pub reduced-some : (c : ℤ) (m : Exact) (n : ℤ) (v : Congruence) → m ≡ exact.Is n → v ≡ ported.normalize (remZ c n) n → Is v ≡ ported.reduced c m
+unfolding ported.reduced
+reduced-some c m n v p h = rw p (ap Is h)
+
+module _ (a b : Congruence) (s : CongruenceAnswer) (h : s ≡ ported.negated b) where
+  pub subtract-some : (v : Congruence) (r : CongruenceAnswer) → s ≡ Is v → r ≡ ported.added a v → r ≡ ported.subtracted a b
+  unfolding ported.subtracted ported.addedTo
+  subtract-some v r p q = rw (sym h ∙ p) q
+
+  pub subtract-none : (r : Refusal) → s ≡ Refused r → Refused r ≡ ported.subtracted a b
+  unfolding ported.subtracted ported.addedTo
+  subtract-none r p = rw (sym h ∙ p) refl
+
+-- ---- mended
+
+module _ (z g : Exact) (over : Congruence) where
+  pub result-none : z ≡ exact.DoesNotFit → over ≡ mended.resultOf z g over
+  unfolding mended.resultOf
+  result-none p = rw p refl
+
+  pub result-none-2 : (k : ℤ) → z ≡ exact.Is k → g ≡ exact.DoesNotFit → over ≡ mended.resultOf z g over
+  unfolding mended.resultOf
+  result-none-2 k p q = rw (p, q) refl
+
+  pub result-some : (k n : ℤ) (v : Congruence) → z ≡ exact.Is k → g ≡ exact.Is n → v ≡ cong (floorRem k n) n → v ≡ mended.resultOf z g over
+  unfolding mended.resultOf
+  result-some k n v p q h = rw (p, q) h
+
+pub ruleset result-cases = (result-none, result-none-2, result-some)
+
+pub only-none : (z : Exact) → z ≡ exact.DoesNotFit → bottom ≡ mended.onlyOf z
+unfolding mended.onlyOf
+only-none z p = rw p refl
+
+pub only-some : (z : Exact) (k : ℤ) (v : Congruence) → z ≡ exact.Is k → v ≡ cong k (pos 0) → v ≡ mended.onlyOf z
+unfolding mended.onlyOf
+only-some z k v p h = rw p h
+
+pub ruleset only-cases = (only-none, only-some)
+
+-- a number that was asked for is the one that was found
+pub found-is : (w : Width) (z k : ℤ) → exactly w z ≡ exact.Is k → k ≡ z
+unfolding exactly
+found-is w z k h = go (fits? w z) h
+  where
+    go : (t : Bool) → pick t (exact.Is z) exact.DoesNotFit ≡ exact.Is k → k ≡ z
+    go true e = cc
+    go false e = let i : _≡_ {A = ℕ} 0 1 = cc in absurd (omega arith)
+
+pub found-fits : (w : Width) (z k : ℤ) → exactly w z ≡ exact.Is k → fits? w z ≡ true
+unfolding exactly
+found-fits w z k h = go (fits? w z) h
+  where
+    go : (t : Bool) → pick t (exact.Is z) exact.DoesNotFit ≡ exact.Is k → t ≡ true
+    go true e = refl
+    go false e = let i : _≡_ {A = ℕ} 0 1 = cc in absurd (omega arith)
+
+pub not-found : (w : Width) (z : ℤ) → exactly w z ≡ exact.DoesNotFit → fits? w z ≡ false
+unfolding exactly
+not-found w z h = go (fits? w z) h
+  where
+    go : (t : Bool) → pick t (exact.Is z) exact.DoesNotFit ≡ exact.DoesNotFit → t ≡ false
+    go true e = let i : _≡_ {A = ℕ} 0 1 = cc in absurd (omega arith)
+    go false e = refl
+
+module _ (z : ℤ) (m : ℕ) (r : Exact) (some : m ≡ 0 → ⊥) (h : r ≡ exactly w64 (pos m)) where
+  pub class-none : r ≡ exact.DoesNotFit → top ≡ mended.exactOf w64 z m
+  unfolding mended.exactOf mended.classOf mended.resultOf
+  class-none p = rw (ne-eqb m 0 some, sym h ∙ p) refl
+
+  pub class-some : (k : ℤ) (v : Congruence) → r ≡ exact.Is k → v ≡ cong (floorRem z k) k → v ≡ mended.exactOf w64 z m
+  unfolding mended.exactOf mended.classOf mended.resultOf
+  class-some k v p e = rw (ne-eqb m 0 some, sym h ∙ p) e
+
+  pub above-zero : (k : ℤ) → r ≡ exact.Is k → pos 0 <ℤ k
+  above-zero k p =
+      let e = found-is w64 (pos m) k (sym h ∙ p) in
+      let n : 0 < m = pos-of-ne-zero some in
+      omega ints
+
+pub ruleset cases = (gcd-none, gcd-none-2, gcd-some, abs-none, abs-some, made-none, made-none-2, made-some, held-some, held-none, held-none-2, indivisible-none, indivisible-none-2, indivisible-some, on-refused, on-true, on-false, reduced-none, reduced-some, subtract-some, subtract-none)

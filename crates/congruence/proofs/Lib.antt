@@ -1,0 +1,15 @@
+pub mod Values
+pub mod Calls
+pub mod Cases
+pub mod Remainders
+pub mod Sums
+pub mod Residues
+pub mod Classes
+pub mod Sets
+pub mod Results
+pub mod Lattice
+pub mod Arithmetic
+pub mod Quotients
+pub mod Comparisons
+pub mod Covers
+pub mod Claims

@@ -1,0 +1,54 @@
+-- The quotient and the remainder toward zero by 0, by 1 and by -1, and the magnitude of a difference.
+use mathlib.Core.Path.{_≡_, ap, _∙_}
+use Prim.Native.Nat.{suc, _+_, _-_, _≤_, _<_}
+use native.Mathlib.Nat.{mod-zero, mod-one, div-zero, div-one}
+use native.Mathlib.Omega.{arith}
+use lib.IntN.{ℤ, pos, negsuc, negℤ, natAbs, _-ℤ_}
+use lib.Signed.{_≤ℤ_, _<ℤ_, quotZ, remZ}
+use mir.Syntax.{w64}
+use mir.Val.{SFits}
+use Rattle.whole.proofs.Linear.{ints, sub, abs}
+use Rattle.whole.proofs.Fits.{range}
+use Rattle.whole.proofs.Ring.{natAbs-zero}
+use Rattle.whole.proofs.Divide.{natAbs-rem, quot-neg}
+
+pub rem-zero : (x : ℤ) → remZ x (pos 0) ≡ x
+rem-zero (pos a) = ap pos (mod-zero a)
+rem-zero (negsuc a) = ap (λ t. negℤ (pos t)) (mod-zero (suc a))
+
+pub rem-minus : (x : ℤ) → remZ x (negsuc 0) ≡ pos 0
+rem-minus x = natAbs-zero (remZ x (negsuc 0)) (natAbs-rem x (negsuc 0) ∙ mod-one (natAbs x))
+
+pub quot-zero : (x : ℤ) → quotZ x (pos 0) ≡ pos 0
+quot-zero (pos a) = ap pos (div-zero a)
+quot-zero (negsuc a) = ap (λ t. negℤ (pos t)) (div-zero (suc a))
+
+quot-one : (x : ℤ) → quotZ x (pos 1) ≡ x
+quot-one (pos a) = ap pos (div-one a)
+quot-one (negsuc a) = ap (λ t. negℤ (pos t)) (div-one (suc a))
+
+pub quot-minus : (x : ℤ) → quotZ x (negsuc 0) ≡ negℤ x
+quot-minus x = quot-neg x (pos 1) ∙ ap negℤ (quot-one x)
+
+-- ---- |x - y| by the signs of the two
+pub apart-below : (x y : ℤ) → x <ℤ pos 0 → y <ℤ pos 0 → (natAbs x - natAbs y) + (natAbs y - natAbs x) ≡ natAbs (x -ℤ y)
+apart-below (pos a) y h k = absurd (omega ints)
+apart-below (negsuc a) (pos b) h k = absurd (omega ints)
+apart-below (negsuc a) (negsuc b) h k = omega (arith, abs (negsuc a -ℤ negsuc b), sub (negsuc a) (negsuc b))
+
+pub apart-above : (x y : ℤ) → pos 0 ≤ℤ x → pos 0 ≤ℤ y → (natAbs x - natAbs y) + (natAbs y - natAbs x) ≡ natAbs (x -ℤ y)
+apart-above (pos a) (pos b) h k = omega (arith, abs (pos a -ℤ pos b), sub (pos a) (pos b))
+apart-above (pos a) (negsuc b) h k = absurd (omega ints)
+apart-above (negsuc a) y h k = absurd (omega ints)
+
+pub apart-across : (x y : ℤ) → x <ℤ pos 0 → pos 0 ≤ℤ y → natAbs x + natAbs y ≡ natAbs (x -ℤ y)
+apart-across x y h k = omega (ints, abs x, abs y, abs (x -ℤ y), sub x y)
+
+pub apart-across-2 : (x y : ℤ) → pos 0 ≤ℤ x → y <ℤ pos 0 → natAbs x + natAbs y ≡ natAbs (x -ℤ y)
+apart-across-2 x y h k = omega (ints, abs x, abs y, abs (x -ℤ y), sub x y)
+
+pub abs-small : (z : ℤ) → SFits w64 z → natAbs z ≤ 9223372036854775808
+abs-small z f = omega (ints, abs z, range f)
+
+pub abs-small-pos : (z : ℤ) → SFits w64 z → pos 0 ≤ℤ z → natAbs z < 9223372036854775808
+abs-small-pos z f h = omega (ints, abs z, range f)

@@ -1,0 +1,104 @@
+-- What `search` is handed for the definitions on congruences, beside the `flags` of whole numbers.
+use mathlib.Core.Path.{_≡_, refl, sym, ap, _∙_}
+use mathlib.Core.Bool.{Bool, true, false, not, _&&_, _||_}
+use Prim.Native.Nat.{ℕ}
+use lib.Dec.{eqb}
+use lib.IntN.{ℤ, pos}
+use mir.Syntax.{w64}
+use mir.Val.{SFits, toZ, ofZ}
+use mir.Facts.{toZ-ofZ}
+use Rattle.whole.specs.Test.{_≟_}
+use Rattle.whole.proofs.Fits.{machine, zero-fits}
+use Rattle.whole.proofs.Flags.{bools, eq-yes, eq-no, eq-is}
+use Rattle.congruence.specs.declared.Congruence.{Congruence}
+use Rattle.congruence.specs.Set.{cong, bottom?, domain?, singles?, form}
+use Rattle.congruence.specs.Numbers.{divides?}
+use Rattle.congruence.specs.Answer.{within2}
+use Rattle.congruence.specs.Ported as ported
+use Rattle.congruence.specs.Mended as mended
+
+-- a struct by its fields
+pub built : (a b m n : ℤ) → a ≡ m → b ≡ n → cong a b ≡ cong m n
+built a b m n p q = rw (p, q) refl
+
+-- what a call ensures of a test, as the test of the definition
+pub bottom-told : (a : Congruence) (r t : Bool) → r ≡ bottom? a → r ≡ t → bottom? a ≡ t
+bottom-told a r t p q = sym p ∙ q
+
+pub both-told : (a b : Congruence) (r t : Bool) → r ≡ (domain? a && domain? b) → r ≡ t → (domain? a && domain? b) ≡ t
+both-told a b r t p q = sym p ∙ q
+
+pub either-told : (a b : Congruence) (r t : Bool) → r ≡ (bottom? a || bottom? b) → r ≡ t → (bottom? a || bottom? b) ≡ t
+either-told a b r t p q = sym p ∙ q
+
+pub singles-told : (a b : Congruence) (r t : Bool) → r ≡ singles? a b → r ≡ t → singles? a b ≡ t
+singles-told a b r t p q = sym p ∙ q
+
+pub only-told : (a : Congruence) (k : ℤ) (r t : Bool) → r ≡ ported.only? a k → r ≡ t → ported.only? a k ≡ t
+only-told a k r t p q = sym p ∙ q
+
+pub same-told : (a b : Congruence) (r t : Bool) → r ≡ ported.same? a b → r ≡ t → ported.same? a b ≡ t
+same-told a b r t p q = sym p ∙ q
+
+pub below-told : (a b : Congruence) (r t : Bool) → r ≡ ported.below? a b → r ≡ t → ported.below? a b ≡ t
+below-told a b r t p q = sym p ∙ q
+
+pub divides-call : (a : Congruence) (d : ℤ) (r t : Bool) → r ≡ divides? (toZ w64 (ofZ w64 d)) a → SFits w64 d → r ≡ t → divides? d a ≡ t
+divides-call a d r t h p q = sym (simp (toZ-ofZ p) at h) ∙ q
+
+pub inside-told : (a b : Congruence) (r t : Bool) → r ≡ mended.inside? a b → r ≡ t → mended.inside? a b ≡ t
+inside-told a b r t p q = sym p ∙ q
+
+pub apart-told : (a b : Congruence) (r t : Bool) → r ≡ mended.apart? a b → r ≡ t → mended.apart? a b ≡ t
+apart-told a b r t p q = sym p ∙ q
+
+-- a comparison the other way round
+pub turned : (test : ℤ → ℤ → Bool) (a b : Congruence) → mended.onForms (mended.comparison test) a b ≡ mended.onForms (mended.comparison (λ x y. test y x)) b a
+unfolding within2 mended.comparison singles?
+turned test a b = simp (and-comm (domain? a) (domain? b), and-comm (form a .modulus ≟ pos 0) (form b .modulus ≟ pos 0))
+  where
+    and-comm : (s t : Bool) → (s && t) ≡ (t && s)
+    and-comm true true = refl
+    and-comm true false = refl
+    and-comm false true = refl
+    and-comm false false = refl
+
+pub domain-told : (a : Congruence) (r t : Bool) → r ≡ domain? a → r ≡ t → domain? a ≡ t
+domain-told a r t p q = sym p ∙ q
+
+-- a test that a definition puts together of two, as the code's own ifs have it
+pub and-is : (r s t : Bool) → s ≡ true → r ≡ t → r ≡ (s && t)
+and-is r s t h e = rw h e
+
+pub and-off : (r s t : Bool) → s ≡ false → r ≡ false → r ≡ (s && t)
+and-off r s t h e = rw h e
+
+pub not-on : (s : Bool) → s ≡ false → not s ≡ true
+not-on s h = rw h refl
+
+pub not-off : (s : Bool) → s ≡ true → not s ≡ false
+not-off s h = rw h refl
+
+pub or-is : (r s t : Bool) → s ≡ false → r ≡ t → r ≡ (s || t)
+or-is r s t h e = rw h e
+
+pub or-on : (r s t : Bool) → s ≡ true → r ≡ true → r ≡ (s || t)
+or-on r s t h e = rw h e
+
+-- the code's `==` at 64 bits, where a literal's bits are a numeral
+pub equal-bits : (x y : ℤ) → ofZ w64 x ≡ ofZ w64 y → SFits w64 x → SFits w64 y → (x ≟ y) ≡ true
+equal-bits x y = eq-yes {w = w64} x y
+
+pub other-bits : (x y : ℤ) → (ofZ w64 x ≡ ofZ w64 y → ⊥) → (x ≟ y) ≡ false
+other-bits = eq-no w64
+
+pub differ-is : (x y : ℤ) (k n : ℕ) → k ≡ ofZ w64 x → n ≡ ofZ w64 y → SFits w64 x → SFits w64 y → not (eqb k n) ≡ not (x ≟ y)
+differ-is x y k n p q f g = ap not (eq-is x y k n p q f g)
+
+pub fits-0 : SFits w64 (pos 0)
+fits-0 = zero-fits
+
+pub fits-1 : SFits w64 (pos 1)
+fits-1 = omega machine
+
+pub ruleset values = (bottom-told, domain-told, both-told, either-told, built, and-is, and-off, or-is, or-on, not-on, not-off, equal-bits, other-bits, differ-is, fits-0, fits-1, bools)

@@ -1,0 +1,5 @@
+pub mod Set
+pub mod Answer
+pub mod Numbers
+pub mod Mended
+pub mod Ported
