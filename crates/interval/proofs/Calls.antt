@@ -1,16 +1,13 @@
 -- What the code's calls and results leave, carried to the definitions: `answers` is handed to `search` beside `flags`.
-use mathlib.Core.Path.{_≡_, refl, sym, _∙_}
-use mathlib.Core.Bool.{Bool, true, false, not, _&&_, _||_}
-use lib.IntN.{ℤ, pos, negℤ, _+ℤ_, _-ℤ_, _*ℤ_}
+use mathlib.Core.Path.{_≡_, refl}
+use mathlib.Core.Bool.{Bool, true, false, _&&_, _||_}
+use lib.IntN.{ℤ}
 use mir.Syntax.{w64}
-use mir.Val.{ofZ}
 use Rattle.whole.specs.Test.{_≟_}
 use borrow.Author.Tests.{ne-eqb}
 use Rattle.whole.specs.Choice.{pick}
-use Rattle.whole.specs.Range.{least, greatest, fits?}
-use Rattle.whole.specs.Exact.{exactly}
-use Rattle.whole.specs.declared.Exact.{Exact}
-use Rattle.whole.proofs.Flags.{bools, eq-no, told, was-false, was-true, and-yes, and-no, and-no-2, or-yes, or-yes-2, or-no}
+use Rattle.whole.specs.Range.{least, greatest}
+use Rattle.whole.proofs.Flags.{bools, told, was-false, was-true, and-yes, and-no, and-no-2, or-yes, or-yes-2, or-no}
 use Rattle.whole.proofs.Calls.{called-1, called}
 use Rattle.interval.specs.declared.IntervalAnswer.{IntervalAnswer}
 use Rattle.interval.specs.Answer.{Answer, is}
@@ -20,10 +17,6 @@ use Rattle.interval.specs.Set.{Interval, _⋯_, isBottom, empty?, canoni
 
 pub made : (a b m n : ℤ) → a ≡ m → b ≡ n → _≡_ {A = Interval} (a ⋯ b) (m ⋯ n)
 made a b m n p q = rw (p, q) refl
-
--- two numbers of 64 bits that the code found unequal
-pub differ : (a b : ℤ) → (ofZ w64 a ≡ ofZ w64 b → ⊥) → (a ≟ b) ≡ false
-differ = eq-no w64
 
 -- ---- the value of an `&&`
 pub and-is : (s t x : Bool) → s ≡ true → x ≡ t → x ≡ (s && t)
@@ -40,7 +33,7 @@ or-is-no s t x h k = rw h k
 
 pub ruleset ors = (or-is, or-is-no, bools)
 
-pub ruleset ands = (differ, and-is, and-is-no, ne-eqb, bools)
+pub ruleset ands = (and-is, and-is-no, ne-eqb, bools)
 
 -- ---- canonical, by the code's test
 pub canonical-no : (i : Interval) (r : Bool) → empty? i ≡ true → r ≡ isBottom w64 i → r ≡ canonical? w64 i
@@ -49,7 +42,7 @@ canonical-no i r h e = rw h e
 pub canonical-yes : (i : Interval) → empty? i ≡ false → true ≡ canonical? w64 i
 canonical-yes i h = rw h refl
 
-pub ruleset asked = (differ, told, was-false, was-true, and-yes, and-no, and-no-2, or-yes, or-yes-2, or-no)
+pub ruleset asked = (told, was-false, was-true, and-yes, and-no, and-no-2, or-yes, or-yes-2, or-no)
 
 -- ---- an answer of the mended operations, put together
 pub is-made : (a b : Interval) → a ≡ b → _≡_ {A = Answer Interval} (is a) (is b)

@@ -1,8 +1,8 @@
 -- The canonical intervals: those with a number, and bottom, which has none.
 use mathlib.Core.Path.{_≡_, refl}
 use mathlib.Core.Logic.{_≢_, _⊎_, inl, inr}
-use mathlib.Core.Bool.{Bool, true, false}
-use lib.IntN.{ℤ, pos}
+use mathlib.Core.Bool.{true, false}
+use lib.IntN.{ℤ}
 use lib.Signed.{_≤ℤ_, _<ℤ_}
 use mir.Syntax.{Width}
 use Rattle.whole.specs.Range.{least, greatest}
@@ -44,6 +44,10 @@ canonical-is {w} none = rw (is-true (lt-test (least w) (greatest w)) (λ h. omeg
 pub has-number : {w : Width} {i : Interval} → Canonical w i → NotBottom w i → Proper w i
 has-number (some p) f = p
 has-number {w} none f = unlike w f
+
+-- what has a number is not bottom
+pub not-bottom : {w : Width} {i : Interval} → Proper w i → isBottom w i ≡ false
+not-bottom {w} {i} p = is-false (bottom-test w i) (λ e. absurd (omega (ints, signs w)))
 
 -- both its ends are numbers of the width
 pub in-width : {w : Width} {i : Interval} → Canonical w i → (least w ≤ℤ i .min) × (i .min ≤ℤ greatest w) × (least w ≤ℤ i .max) × (i .max ≤ℤ greatest w)

@@ -1,31 +1,45 @@
 -- What the mended operations are, by document 01's words. Set statements speak of proper intervals, those with a number and ends that fit; bottom is said apart.
-use mathlib.Core.Path.{_≡_, refl, sym, _∙_, ap}
+use mathlib.Core.Path.{_≡_, refl, ap}
 use mathlib.Core.Logic.{_≢_, _⊎_, inl, inr}
-use mathlib.Core.Bool.{Bool, true, false, _&&_, _||_}
+use mathlib.Core.Bool.{true, false, _&&_, _||_}
 use Prim.Native.Nat.{ℕ}
-use lib.IntN.{ℤ, pos, negsuc, negℤ, _+ℤ_, _-ℤ_, _*ℤ_}
+use lib.IntN.{ℤ, pos, negℤ, _+ℤ_, _-ℤ_, _*ℤ_}
 use lib.Signed.{_≤ℤ_, _<ℤ_, quotZ, remZ}
 use mir.Syntax.{Width}
 use mir.Val.{SFits}
 use Rattle.whole.specs.Choice.{pick}
-use Rattle.whole.specs.Test.{truth, _<?_, _≤?_, _≟_}
-use Rattle.whole.specs.Whole.{minℤ, maxℤ}
-use Rattle.whole.specs.Range as Range
-use Rattle.whole.proofs.Linear.{ints, from-≢}
+use Rattle.whole.proofs.Linear.{ints}
 use Rattle.whole.proofs.Linear as L
-use Rattle.whole.proofs.Shapes.{lin}
 use Rattle.whole.proofs.Fits.{low, high}
-use Rattle.whole.proofs.Decides.{Decides, holds, fails, branch, both, either, lt-test, eq-test, is-true, is-false}
-use Rattle.interval.specs.Set.{Interval, _⋯_, _∈_, _∉_, _⊆_, top, bottom, single, isOnly, isBottom, empty?, canonical?, Proper, Canonical, some, none}
-use Rattle.interval.specs.Answer.{Answer, is, refused}
-use Rattle.interval.specs.Mended.{ranged, strict, lenient, neg, add, sub, mul, div, rem, remSingle, remRange, magnitude, ltV, leV, eqV, lt, gt, le, ge, eq, narrowed, filled, narrow, join}
+use Rattle.whole.proofs.Decides.{holds, branch, both, eq-test, is-false}
+use Rattle.refusal.proofs.Claims.{number-tells}
+use Rattle.interval.specs.declared.IntervalAnswer.{IntervalAnswer}
+use Rattle.interval.specs.declared.IntervalAnswer.the-variants.{Is, Refused}
+use Rattle.interval.specs.declared.PairAnswer.{PairAnswer}
+use Rattle.interval.specs.declared.PairAnswer.the-variants as pair
+use Rattle.interval.specs.Set.{Interval, _⋯_, _∈_, _∉_, _⊆_, top, bottom, isOnly, empty?, canonical?, Proper, Canonical, none}
+use Rattle.interval.specs.Answer.{Answer, is, refused, told, pairTold}
+use Rattle.interval.specs.Mended.{ranged, strict, lenient, neg, add, sub, mul, div, rem, remSingle, ltV, leV, eqV, lt, gt, le, ge, eq, narrow, join}
 use Rattle.interval.proofs.Test.{in-test, only-test}
-use Rattle.interval.proofs.Ends.{Least, add-least, sub-least, mul-least, neg-least}
+use Rattle.interval.proofs.Ends.{only, Least, add-least, sub-least, mul-least, neg-least}
 use Rattle.interval.proofs.Truth as T
 use Rattle.interval.proofs.Truth.{Verdict}
-use Rattle.interval.proofs.Rem.{rem-covers, proper, signs}
+use Rattle.interval.proofs.Rem.{rem-covers, proper}
 use Rattle.interval.proofs.Canonical.{full}
 use Rattle.interval.proofs.Narrow.{Between, between-them}
+
+-- ---- two answers that tell the same are the same, so a contract on what is told fixes the answer
+pub answer-fixed : (r s : IntervalAnswer) → told r ≡ told s → r ≡ s
+answer-fixed (Is u) (Is v) e = cc
+answer-fixed (Is u) (Refused r) e = let z : _≡_ {A = ℕ} 0 1 = cc in absurd (omega ints)
+answer-fixed (Refused q) (Is v) e = let z : _≡_ {A = ℕ} 0 1 = cc in absurd (omega ints)
+answer-fixed (Refused q) (Refused r) e = ap Refused (number-tells q r cc)
+
+pub pair-fixed : (r s : PairAnswer) → pairTold r ≡ pairTold s → r ≡ s
+pair-fixed (pair.Is u) (pair.Is v) e = cc
+pair-fixed (pair.Is u) (pair.Refused r) e = let z : _≡_ {A = ℕ} 0 1 = cc in absurd (omega ints)
+pair-fixed (pair.Refused q) (pair.Is v) e = let z : _≡_ {A = ℕ} 0 1 = cc in absurd (omega ints)
+pair-fixed (pair.Refused q) (pair.Refused r) e = ap pair.Refused (number-tells q r cc)
 
 -- ---- neg, add, sub, mul: the least range holding all exact results, or 2 where one of its ends doesn't fit
 pub data Exact (w : Width) (f : ℤ → ℤ → ℤ) (a b : Interval) : Answer Interval → Type 0 where
@@ -110,9 +124,6 @@ pub data Covers (w : Width) (f : ℤ → ℤ → ℤ) (a b : Interval) : Answer 
   refusing : {n : ℕ} → Covers w f a b (refused n)
 
 module _ {w : Width} {a b : Interval} (p : Proper w a) (q : Proper w b) where
-  same : {i : Interval} {x : ℤ} → i .min ≡ i .max → x ∈ i → x ≡ i .min
-  same e h = omega ints
-
   zero : {y : ℤ} → (b .min ≡ pos 0) × (b .max ≡ pos 0) → y ∈ b → y ≡ pos 0
   zero h t = omega ints
 
@@ -128,7 +139,7 @@ module _ {w : Width} {a b : Interval} (p : Proper w a) (q : Proper w b) where
       C = Covers w remZ a b
 
       alone : a .min ≡ a .max → b .min ≡ b .max → C (remSingle w (a .min) (b .min))
-      alone d e = branch (in-test _ (top w)) C (λ _. covering (λ x y s t nz f. rw (same d s, same e t) (record { low = omega ints; high = omega ints }))) (λ _. refusing)
+      alone d e = branch (in-test _ (top w)) C (λ _. covering (λ x y s t nz f. rw (only d s, only e t) (record { low = omega ints; high = omega ints }))) (λ _. refusing)
 
   pub div-cover : Covers w quotZ a b (div w a b)
   unfolding div

@@ -1,30 +1,25 @@
 -- Where a comparison may hold, exactly; and error 4 of document 01.
-use mathlib.Core.Path.{_≡_, refl, sym}
-use mathlib.Core.Logic.{_≢_, _⊎_, inl, inr, _↔_}
-use mathlib.Core.Bool.{Bool, true, false, _||_}
+use mathlib.Core.Path.{_≡_}
+use mathlib.Core.Logic.{_⊎_, inl, inr, _↔_}
+use mathlib.Core.Bool.{false}
 use Prim.Native.Nat.{ℕ}
 use lib.IntN.{ℤ, pos, _+ℤ_, _-ℤ_}
 use lib.Signed.{_≤ℤ_, _<ℤ_}
 use mir.Syntax.{w64}
-use Rattle.whole.specs.Choice.{pick}
-use Rattle.whole.specs.Test.{_≤?_, _<?_, _≟_}
 use Rattle.whole.specs.Range.{least, greatest}
-use Rattle.whole.specs.Whole.{minℤ, maxℤ}
 use Rattle.whole.specs.declared.Order.{Order}
 use Rattle.whole.specs.declared.Order.the-variants.{Less, Equal, Greater, None}
 use Rattle.whole.proofs.Linear.{ints}
 use Rattle.whole.proofs.Linear as L
-use Rattle.whole.proofs.Shapes.{lin}
 use Rattle.whole.proofs.Decides.{Decides, branch, either, le-test, lt-test, eq-test, is-true, is-false}
 use Rattle.interval.specs.declared.Pair.{Pair}
-use Rattle.interval.specs.Set.{Interval, _⋯_, _∈_, _⊆_, bottom, single, isBottom, Proper, Canonical, some, none}
+use Rattle.interval.specs.Set.{Interval, _∈_, bottom, single, Proper, Canonical}
 use Rattle.interval.specs.declared.Single.the-variants.{One}
 use Rattle.interval.specs.Answer.{Answer, is, refused}
 use Rattle.interval.specs.Mended.{filled}
-use Rattle.interval.specs.Ported.{common, mayEqualWhen, meet, apart, pair, lessLeft, lessRight, maybeLessWhen, leLeft, leRight, maybeLeWhen, singleton, sameOne, weakCmp, leBy, geBy}
+use Rattle.interval.specs.Ported.{mayEqualWhen, meet, apart, pair, lessLeft, lessRight, maybeLessWhen, leLeft, leRight, maybeLeWhen, singleton, sameOne, weakCmp, leBy, geBy}
 use Rattle.interval.proofs.Ends.{low-in, high-in}
-use Rattle.interval.proofs.Rem.{signs}
-use Rattle.interval.proofs.Canonical.{IsBottom, NotBottom, bottom-test, nothing, has-number, full}
+use Rattle.interval.proofs.Canonical.{IsBottom, NotBottom, bottom-test, nothing, has-number, not-bottom}
 use Rattle.interval.proofs.Filled.{into, out-of}
 use Rattle.interval.proofs.ClaimsLattice.{meet-exact}
 
@@ -140,9 +135,6 @@ module _ (a b : Interval) where
 
 -- the pair of touching ends holds, and the answer is false
 module _ {a b : Interval} (p : Proper w64 a) (q : Proper w64 b) where
-  not-bottom : {i : Interval} → Proper w64 i → isBottom w64 i ≡ false
-  not-bottom {i} p = is-false (bottom-test w64 i) (λ e. absurd (omega (ints, signs w64)))
-
   pub touching-ge-wrong : a .max ≡ b .min → (b .min ≤ℤ a .max) × (geBy (weakCmp a b) ≡ single (pos 0))
   unfolding weakCmp geBy
   touching-ge-wrong e = (omega ints, rw (not-bottom p, not-bottom q, is-true (le-test (a .max) (b .min)) (λ h. omega ints)))

@@ -1,16 +1,16 @@
 -- Join, meet, order and widening of intervals, by the sets; and error 7 of document 01.
-use mathlib.Core.Path.{_≡_, refl, sym}
+use mathlib.Core.Path.{_≡_, refl}
 use mathlib.Core.Logic.{_≢_, _⊎_, inl, inr, _↔_}
-use mathlib.Core.Bool.{Bool, true, false}
+use mathlib.Core.Bool.{true}
 use lib.IntN.{ℤ, pos}
 use lib.Signed.{_≤ℤ_, _<ℤ_}
 use mir.Syntax.{Width, w64}
 use Rattle.whole.specs.Choice.{pick}
-use Rattle.whole.specs.Test.{_≤?_, _<?_, _≟_}
+use Rattle.whole.specs.Test.{_<?_, _≟_}
 use Rattle.whole.specs.Range.{least, greatest}
 use Rattle.whole.specs.declared.Order.{Order}
 use Rattle.whole.specs.declared.Order.the-variants.{Less, Equal, Greater, None}
-use Rattle.whole.proofs.Linear.{ints, from-≢}
+use Rattle.whole.proofs.Linear.{ints}
 use Rattle.whole.proofs.Linear as L
 use Rattle.whole.proofs.Decides.{branch, both, le-test, lt-test, eq-test}
 use Rattle.interval.specs.Set.{Interval, _⋯_, _∈_, _⊆_, bottom, Proper, Canonical, some, none, empty?}
@@ -21,7 +21,7 @@ use Rattle.interval.proofs.Ends.{low-in, high-in}
 use Rattle.interval.proofs.Rem.{signs}
 use Rattle.interval.proofs.Canonical.{bottom-test, nothing, in-width}
 use Rattle.interval.proofs.Filled.{into, out-of, filled-canonical}
-use Rattle.interval.proofs.Claims.{join-left, join-right, join-proper}
+use Rattle.interval.proofs.Claims.{join-left, join-right}
 
 -- ---- the join: it holds both, and nothing smaller does
 pub record Join (a b v : Interval) : Type 0 where

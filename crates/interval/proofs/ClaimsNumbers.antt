@@ -1,13 +1,13 @@
 -- Numbers (4), (5), (6), (7) and (13) of document 01's table, computed on the definitions.
 use mathlib.Core.Path.{_≡_, refl}
-use lib.IntN.{ℤ, pos, negsuc}
-use mir.Syntax.{Width, w64}
-use Rattle.whole.specs.Whole.{minℤ, maxℤ}
-use Rattle.whole.specs.Range.{least, greatest, clamp, fits?}
+use lib.IntN.{pos, negsuc}
+use mir.Syntax.{w64}
+use Rattle.whole.specs.Whole.{maxℤ}
+use Rattle.whole.specs.Range.{least, greatest, fits?}
 use Rattle.whole.specs.Exact.{exactly}
 use Rattle.whole.specs.Test.{_≤?_, _<?_, _≟_}
-use Rattle.interval.specs.Set.{Interval, _⋯_, top, single}
-use Rattle.interval.specs.Answer.{Answer, is, refused}
+use Rattle.interval.specs.Set.{_⋯_, top, single}
+use Rattle.interval.specs.Answer.{is, refused}
 use Rattle.interval.specs.Mended as mended
 use Rattle.interval.specs.Mended.{verdict, remWithin}
 use Rattle.interval.specs.Ported.{weakCmp, geBy, neg, remBy, remLarge, rem, widen}

@@ -1,35 +1,33 @@
 -- The ported arithmetic covers every result that fits; sums, differences and products are least where document 01 says so.
-use mathlib.Core.Path.{_≡_, refl, sym, _∙_}
+use mathlib.Core.Path.{_≡_, refl}
 use mathlib.Core.Logic.{_≢_, _⊎_, inl, inr}
-use mathlib.Core.Bool.{Bool, true, false, _||_}
-use Prim.Native.Nat.{ℕ}
-use lib.IntN.{ℤ, pos, negsuc, negℤ, natAbs, _+ℤ_, _-ℤ_, _*ℤ_}
-use lib.Signed.{_≤ℤ_, _<ℤ_, remZ}
+use mathlib.Core.Bool.{false}
+use lib.IntN.{ℤ, pos, negℤ, natAbs, _+ℤ_, _-ℤ_, _*ℤ_}
+use lib.Signed.{_≤ℤ_, remZ}
 use mir.Syntax.{w64}
 use mir.Val.{SFits}
 use Rattle.whole.specs.Choice.{pick}
 use Rattle.whole.specs.Test.{_≤?_, _<?_, _≟_}
-use Rattle.whole.specs.Whole.{minℤ, maxℤ, min4, max4}
-use Rattle.whole.specs.Range.{least, greatest, clamp, fits?}
+use Rattle.whole.specs.Whole.{maxℤ}
+use Rattle.whole.specs.Range.{least, greatest, clamp}
 use Rattle.whole.specs.Exact.{exactly}
-use Rattle.whole.specs.declared.Exact.the-variants.{Is, DoesNotFit}
 use Rattle.whole.specs.declared.Order.{Order}
-use Rattle.whole.specs.declared.Order.the-variants.{Less, Equal, Greater, None}
-use Rattle.whole.proofs.Linear.{ints, abs, split, from-≢}
+use Rattle.whole.specs.declared.Order.the-variants.{None}
+use Rattle.whole.proofs.Linear.{ints, abs, split}
 use Rattle.whole.proofs.Linear as L
 use Rattle.whole.proofs.Shapes.{lin}
 use Rattle.whole.proofs.Fits.{low, high}
 use Rattle.whole.proofs.Corners.{corners}
 use Rattle.whole.proofs.Divide.{rem-small, rem-nonneg, rem-nonpos}
-use Rattle.whole.proofs.Decides.{Decides, branch, both, either, le-test, lt-test, eq-test, fits-test, is-true, is-false, unequal}
+use Rattle.whole.proofs.Decides.{branch, both, either, le-test, eq-test, fits-test, is-false, unequal}
 use Rattle.interval.specs.Set.{Interval, _⋯_, _∈_, top, bottom, single, isBottom, Proper, Canonical, some, none}
 use Rattle.interval.specs.Answer.{Answer, is, refused}
-use Rattle.interval.specs.Mended.{lowCorner, highCorner, remSingle}
-use Rattle.interval.specs.Ported.{addMin, addMax, add, neg, addTo, sub, lowProduct, highProduct, mul, largest, weakCmp, sameOne, singleton, remBy, remLarge, rem}
+use Rattle.interval.specs.Mended.{remSingle}
+use Rattle.interval.specs.Ported.{addMin, addMax, add, neg, addTo, sub, mul, weakCmp, sameOne, singleton, remBy, remLarge, rem}
 use Rattle.interval.proofs.Test.{in-test, only-test}
-use Rattle.interval.proofs.Ends.{Least, add-least, sub-least, mul-least}
+use Rattle.interval.proofs.Ends.{only, Least, add-least, sub-least, mul-least}
 use Rattle.interval.proofs.Rem.{signs}
-use Rattle.interval.proofs.Canonical.{IsBottom, NotBottom, bottom-test, nothing, in-width}
+use Rattle.interval.proofs.Canonical.{IsBottom, bottom-test, nothing, in-width, not-bottom}
 use Rattle.interval.proofs.Claims as M
 use Rattle.interval.proofs.Clamp.{clamp-under, clamp-over, clamp-is, four-under, four-over}
 
@@ -160,11 +158,8 @@ rem-covers a b =
     none-there (inl e) x y p q nz s = beside remZ e x y p q s
     none-there (inr e) x y p q nz s = absurd (nz (omega ints))
 
-    same : {i : Interval} {x : ℤ} → i .min ≡ i .max → x ∈ i → x ≡ i .min
-    same e h = omega ints
-
     alone : a .min ≡ a .max → b .min ≡ b .max → C (remSingle w64 (a .min) (b .min))
-    alone d e = branch (in-test _ (top w64)) C (λ _. M.covering (λ x y s t nz f. rw (same d s, same e t) (record { low = omega ints; high = omega ints }))) (λ _. M.refusing)
+    alone d e = branch (in-test _ (top w64)) C (λ _. M.covering (λ x y s t nz f. rw (only d s, only e t) (record { low = omega ints; high = omega ints }))) (λ _. M.refusing)
 
 -- ---- least
 -- no end is MIN or MAX
@@ -172,8 +167,8 @@ pub record Inner (i : Interval) : Type 0 where
   pub low-end : (i .min ≢ MIN) × (i .min ≢ MAX)
   pub high-end : (i .max ≢ MIN) × (i .max ≢ MAX)
 
-not-bottom : (i : Interval) → i .min ≢ MAX → isBottom w64 i ≡ false
-not-bottom i n = is-false (bottom-test w64 i) (λ e. n (e .0))
+inner-is : (i : Interval) → i .min ≢ MAX → isBottom w64 i ≡ false
+inner-is i n = is-false (bottom-test w64 i) (λ e. n (e .0))
 
 sum-low : {x y : ℤ} → x ≢ MIN → y ≢ MIN → SFits w64 (x +ℤ y) → addMin x y ≡ x +ℤ y
 unfolding addMin
@@ -185,7 +180,7 @@ sum-high m n f = rw (unequal m, unequal n, clamp-is w64 f)
 
 add-is : {a b : Interval} → Inner a → Inner b → SFits w64 (a .min +ℤ b .min) → SFits w64 (a .max +ℤ b .max) → add a b ≡ ((a .min +ℤ b .min) ⋯ (a .max +ℤ b .max))
 unfolding add
-add-is {a} {b} m n f g = rw (not-bottom a (m .low-end .1), not-bottom b (n .low-end .1), sum-low (m .low-end .0) (n .low-end .0) f, sum-high (m .high-end .1) (n .high-end .1) g)
+add-is {a} {b} m n f g = rw (inner-is a (m .low-end .1), inner-is b (n .low-end .1), sum-low (m .low-end .0) (n .low-end .0) f, sum-high (m .high-end .1) (n .high-end .1) g)
 
 -- what is canonical and has no infinite end has a number
 ordered : {i : Interval} → Canonical w64 i → Inner i → i .min ≤ℤ i .max
@@ -200,11 +195,11 @@ pub data LeastAnswer (f : ℤ → ℤ → ℤ) (a b : Interval) : Answer Interva
 
 neg-is : {b : Interval} → Inner b → neg b ≡ is (negℤ (b .max) ⋯ negℤ (b .min))
 unfolding neg
-neg-is {b} n = rw (not-bottom b (n .low-end .1), unequal (n .high-end .0), unequal (n .high-end .1), unequal (n .low-end .0))
+neg-is {b} n = rw (inner-is b (n .low-end .1), unequal (n .high-end .0), unequal (n .high-end .1), unequal (n .low-end .0))
 
 sub-is : {a b : Interval} → Inner a → Inner b → Canonical w64 b → b .min ≢ negℤ MAX → SFits w64 (a .min -ℤ b .max) → SFits w64 (a .max -ℤ b .min) → sub a b ≡ is ((a .min -ℤ b .max) ⋯ (a .max -ℤ b .min))
 unfolding sub add
-sub-is {a} {b} m n d k f g = rw (neg-is n, not-bottom a (m .low-end .1), not-empty, sum-low {y = negℤ (b .max)} (m .low-end .0) high-side f, sum-high {y = negℤ (b .min)} (m .high-end .1) low-side g)
+sub-is {a} {b} m n d k f g = rw (neg-is n, inner-is a (m .low-end .1), not-empty, sum-low {y = negℤ (b .max)} (m .low-end .0) high-side f, sum-high {y = negℤ (b .min)} (m .high-end .1) low-side g)
   where
     low-side : negℤ (b .min) ≢ MAX
     low-side e = k (omega (lin, L.neg (b .min)))
@@ -233,7 +228,4 @@ pub record Corners-fit (a b : Interval) : Type 0 where
 
 pub mul-least-inside : {a b : Interval} → Proper w64 a → Proper w64 b → Corners-fit a b → Least _*ℤ_ a b (mul a b)
 unfolding mul
-mul-least-inside {a} {b} p q f = rw (full-is p, full-is q, clamp-is w64 (f .low-low), clamp-is w64 (f .low-high), clamp-is w64 (f .high-low), clamp-is w64 (f .high-high)) (mul-least (p .ordered) (q .ordered))
-  where
-    full-is : {i : Interval} → Proper w64 i → isBottom w64 i ≡ false
-    full-is {i} p = is-false (bottom-test w64 i) (λ e. absurd (omega (ints, signs w64)))
+mul-least-inside {a} {b} p q f = rw (not-bottom p, not-bottom q, clamp-is w64 (f .low-low), clamp-is w64 (f .low-high), clamp-is w64 (f .high-low), clamp-is w64 (f .high-high)) (mul-least (p .ordered) (q .ordered))

@@ -1,18 +1,19 @@
 -- The sign of an interval is exact: it has the sides of 0 on which the interval has a number, and no other.
-use mathlib.Core.Path.{_≡_, refl, sym}
+use mathlib.Core.Path.{_≡_, refl}
 use mathlib.Core.Logic.{_≢_, _⊎_, inl, inr, _↔_}
-use mathlib.Core.Bool.{Bool, true, false}
+use mathlib.Core.Bool.{Bool, true}
 use Prim.Native.Nat.{ℕ, zero, suc}
 use lib.IntN.{ℤ, pos, negsuc}
 use lib.Signed.{_≤ℤ_, _<ℤ_}
 use mir.Syntax.{w64}
 use Rattle.whole.proofs.Linear.{ints, from-≢}
-use Rattle.whole.proofs.Decides.{Decides, holds, fails, branch, both, le-test, lt-test, eq-test, yes}
+use Rattle.whole.proofs.Decides.{Decides, holds, fails, branch, le-test, lt-test}
 use Rattle.sign.specs.declared.Sign.{Sign}
-use Rattle.sign.specs.declared.Sign.the-variants.{Top, Bottom, Negative, Zero, Positive, NonNeg, NonZero, NonPos}
+use Rattle.sign.specs.declared.Sign.the-variants.{Top, Bottom, Negative, Zero, Positive, NonNeg, NonPos}
 use Rattle.sign.specs.Set as S
 use Rattle.sign.specs.Set.{Side, negative, nought, positive, sideOf, _has_}
-use Rattle.interval.specs.Set.{Interval, _⋯_, _∈_, bottom, single, Proper, Canonical, some, none}
+use Rattle.sign.proofs.Laws.{side-below, side-above}
+use Rattle.interval.specs.Set.{Interval, _∈_, Canonical, none}
 use Rattle.interval.specs.Ported.{signOf, sideSign}
 use Rattle.interval.proofs.Test.{only-test}
 use Rattle.interval.proofs.Ends.{low-in, high-in}
@@ -29,15 +30,6 @@ abbrev pub Exact-sign : Interval → Sign → Type 0
 Exact-sign a s = (d : Side) → ((s has d) ≡ true) ↔ Occurs a d
 
 -- ---- a side, as an order
-is-negative : (x : ℤ) → x <ℤ pos 0 → sideOf x ≡ negative
-is-negative (negsuc k) h = refl
-is-negative (pos k) h = absurd (omega ints)
-
-is-positive : (x : ℤ) → pos 0 <ℤ x → sideOf x ≡ positive
-is-positive (negsuc k) h = absurd (omega ints)
-is-positive (pos zero) h = absurd (omega ints)
-is-positive (pos (suc k)) h = refl
-
 was-negative : (x : ℤ) → sideOf x ≡ negative → x <ℤ pos 0
 was-negative (negsuc k) e = omega ints
 was-negative (pos zero) e = let z : _≡_ {A = ℕ} 0 1 = cc in absurd (omega ints)
@@ -66,10 +58,10 @@ module _ {a : Interval} where
 
   -- ---- the witnesses, and why there is none
   low-negative : a .min ≤ℤ a .max → a .min <ℤ pos 0 → Occurs a negative
-  low-negative o h = record { number = a .min; number-in = low-in o; side = is-negative (a .min) h }
+  low-negative o h = record { number = a .min; number-in = low-in o; side = side-below (a .min) h }
 
   high-positive : a .min ≤ℤ a .max → pos 0 <ℤ a .max → Occurs a positive
-  high-positive o h = record { number = a .max; number-in = high-in o; side = is-positive (a .max) h }
+  high-positive o h = record { number = a .max; number-in = high-in o; side = side-above (a .max) h }
 
   zero-there : a .min ≤ℤ pos 0 → pos 0 ≤ℤ a .max → Occurs a nought
   zero-there h k = record { number = pos 0; number-in = record { low = h; high = k }; side = refl }
@@ -115,3 +107,14 @@ sign-exact {a} c =
 -- so each number of the interval is one of its sign
 pub sign-covers : {a : Interval} → Canonical w64 a → (x : ℤ) → x ∈ a → S._∈_ x (signOf a)
 sign-covers c x h = record { is = sign-exact c (sideOf x) .1 (record { number = x; number-in = h; side = refl }) }
+
+-- at any width: a range with ordered ends
+pub ordered-sign-covers : {a : Interval} → a .min ≤ℤ a .max → (x : ℤ) → x ∈ a → S._∈_ x (signOf a)
+unfolding signOf
+ordered-sign-covers {a} o x h = record { is = exact (sideOf x) .1 (record { number = x; number-in = h; side = refl }) }
+  where
+    exact : Exact-sign a (signOf a)
+    exact =
+        branch (bottom-test w64 a) (Exact-sign a) (λ h. absurd (omega (ints, signs w64))) λ n.
+        branch (only-test a (pos 0)) (Exact-sign a) (λ h. sides Zero (fails (no-negative (omega ints))) (holds (zero-there (omega ints) (omega ints))) (fails (no-positive (omega ints)))) λ z.
+        side-exact o z

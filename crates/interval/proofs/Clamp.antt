@@ -1,10 +1,10 @@
 -- The nearest number of the width, against a number that fits.
 use mathlib.Core.Path.{_≡_, refl, sym}
 use lib.IntN.{ℤ}
-use lib.Signed.{_≤ℤ_, _<ℤ_}
+use lib.Signed.{_≤ℤ_}
 use mir.Syntax.{Width}
 use mir.Val.{SFits}
-use Rattle.whole.specs.Range.{least, greatest, clamp, fits?}
+use Rattle.whole.specs.Range.{least, greatest, clamp}
 use Rattle.whole.specs.Whole.{minℤ, maxℤ, min4, max4}
 use Rattle.whole.proofs.Linear.{ints}
 use Rattle.whole.proofs.Linear as L

@@ -1,14 +1,11 @@
 -- A pair that stands for nothing, made bottom, stands for the same; and what is made so is canonical.
-use mathlib.Core.Path.{_≡_, refl}
-use mathlib.Core.Logic.{_≢_, _⊎_, inl, inr, _↔_}
-use mathlib.Core.Bool.{Bool, true, false}
-use lib.IntN.{ℤ, pos}
-use lib.Signed.{_≤ℤ_, _<ℤ_}
+use lib.IntN.{ℤ}
+use lib.Signed.{_≤ℤ_}
 use mir.Syntax.{Width}
 use Rattle.whole.specs.Range.{least, greatest}
 use Rattle.whole.proofs.Linear.{ints}
 use Rattle.whole.proofs.Decides.{branch, lt-test}
-use Rattle.interval.specs.Set.{Interval, _⋯_, _∈_, _⊆_, bottom, Proper, Canonical, some, none}
+use Rattle.interval.specs.Set.{Interval, _∈_, _⊆_, bottom, Canonical, some, none}
 use Rattle.interval.specs.Mended.{filled}
 use Rattle.interval.proofs.Canonical.{nothing}
 

@@ -11,6 +11,7 @@ pub mod Narrow
 pub mod Filled
 pub mod Clamp
 pub mod Claims
+pub mod ClaimsCanonical
 pub mod ClaimsLattice
 pub mod ClaimsCompared
 pub mod ClaimsSign

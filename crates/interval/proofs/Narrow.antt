@@ -1,20 +1,17 @@
 -- The mended narrowing lies between new and previous, if new is inside previous.
-use mathlib.Core.Path.{_≡_, refl}
-use mathlib.Core.Logic.{_≢_, _⊎_, inl, inr}
-use mathlib.Core.Bool.{Bool, true, false}
-use lib.IntN.{ℤ, pos}
-use lib.Signed.{_≤ℤ_, _<ℤ_}
+use mathlib.Core.Logic.{_⊎_, inl, inr}
+use lib.IntN.{ℤ}
+use lib.Signed.{_≤ℤ_}
 use mir.Syntax.{Width}
 use Rattle.whole.specs.Choice.{pick}
 use Rattle.whole.specs.Test.{_≟_}
 use Rattle.whole.specs.Range.{least, greatest}
 use Rattle.whole.proofs.Linear.{ints}
 use Rattle.whole.proofs.Decides.{branch, either, lt-test, eq-test}
-use Rattle.interval.specs.Set.{Interval, _⋯_, _∈_, _⊆_, bottom, Proper, Canonical}
+use Rattle.interval.specs.Set.{Interval, _⋯_, _⊆_, bottom, Proper, Canonical}
 use Rattle.interval.specs.Answer.{Answer, is}
 use Rattle.interval.specs.Mended.{narrowed, filled, narrow}
-use Rattle.interval.proofs.Rem.{signs}
-use Rattle.interval.proofs.Canonical.{IsBottom, NotBottom, bottom-test, bottom-empty, nothing, canonical-is, has-number}
+use Rattle.interval.proofs.Canonical.{IsBottom, bottom-test, bottom-empty, nothing, canonical-is, has-number}
 
 pub data Between (new previous : Interval) : Answer Interval → Type 0 where
   between : {v : Interval} → new ⊆ v → v ⊆ previous → Between new previous (is v)

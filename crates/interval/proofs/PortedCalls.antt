@@ -4,13 +4,13 @@ use mathlib.Core.Logic.{_⊎_, inl, inr}
 use mathlib.Core.Bool.{Bool, true, false, _&&_}
 use Prim.Native.Nat.{ℕ}
 use lib.IntN.{ℤ, pos, negℤ, natAbs, _+ℤ_, _-ℤ_, _*ℤ_, +ℤ-idl}
-use lib.Signed.{_≤ℤ_, _<ℤ_}
+use lib.Signed.{_≤ℤ_}
 use mir.Syntax.{w64}
 use mir.Val.{SFits, toZ, ofZ}
 use mir.Facts.{toZ-ofZ}
 use Rattle.whole.specs.Choice.{pick}
-use Rattle.whole.specs.Test.{_≤?_, _<?_, _≟_}
-use Rattle.whole.specs.Whole.{minℤ, maxℤ, min4, max4}
+use Rattle.whole.specs.Test.{_<?_, _≟_}
+use Rattle.whole.specs.Whole.{maxℤ, min4, max4}
 use Rattle.whole.specs.Range.{least, greatest, clamp, fits?}
 use Rattle.whole.specs.Exact.{exactly}
 use Rattle.whole.specs.declared.Exact.{Exact}
@@ -18,8 +18,7 @@ use Rattle.whole.specs.declared.Exact.the-variants.{Is, DoesNotFit}
 use Rattle.whole.specs.declared.Order.{Order}
 use Rattle.whole.proofs.Linear.{ints, from-≢}
 use Rattle.whole.proofs.Linear as L
-use Rattle.whole.proofs.Shapes.{lin}
-use Rattle.whole.proofs.Fits.{machine, range, low, high}
+use Rattle.whole.proofs.Fits.{machine, range, high}
 use Rattle.whole.proofs.Decides.{Beyond, both, eq-test, lt-test, fits-test, same-test, not-beyond, no, is-false}
 use Rattle.whole.proofs.Calls.{called-1, called, min-called, max-called}
 use Rattle.refusal.specs.declared.Refusal.{Refusal}
@@ -29,7 +28,7 @@ use Rattle.interval.specs.declared.IntervalAnswer.the-variants as A
 use Rattle.interval.specs.declared.Pair.{Pair}
 use Rattle.interval.specs.declared.Single.{Single}
 use Rattle.interval.specs.Set.{Interval, _⋯_, single, isOnly}
-use Rattle.interval.specs.Answer.{Answer, is, refused, told}
+use Rattle.interval.specs.Answer.{is, refused, told}
 use Rattle.interval.specs.Ends.{greatestOf}
 use Rattle.interval.specs.Mended.{verdict, filled}
 use Rattle.interval.specs.Ported.{sameOne, weakCmp, addMin, addMax, add, neg, sub, largest, remBy, remLarge}

@@ -1,9 +1,9 @@
 -- From exact ends to the range between them, as the mended operations put them together.
-use mathlib.Core.Path.{_≡_, refl, sym, _∙_}
+use mathlib.Core.Path.{_≡_, refl, _∙_}
 use mathlib.Core.Logic.{_⊎_, inl, inr}
 use mathlib.Core.Bool.{Bool, true, false, _&&_}
 use lib.IntN.{ℤ, negℤ, _+ℤ_, _-ℤ_, _*ℤ_}
-use lib.Signed.{_≤ℤ_, _<ℤ_}
+use lib.Signed.{_≤ℤ_}
 use mir.Syntax.{Width, w64}
 use mir.Val.{SFits}
 use Rattle.whole.specs.Choice.{pick}
@@ -15,11 +15,11 @@ use Rattle.whole.specs.declared.Exact.the-variants.{Is, DoesNotFit}
 use Rattle.whole.proofs.Linear.{ints}
 use Rattle.whole.proofs.Linear as L
 use Rattle.whole.proofs.Fits.{low, high}
-use Rattle.whole.proofs.Decides.{Decides, Beyond, both, fits-test, same-test, not-beyond}
+use Rattle.whole.proofs.Decides.{Beyond, both, fits-test, same-test, not-beyond}
 use Rattle.whole.proofs.Calls.{called-1, called}
 use Rattle.interval.specs.declared.IntervalAnswer.{IntervalAnswer}
 use Rattle.interval.specs.Set.{Interval, _⋯_}
-use Rattle.interval.specs.Answer.{Answer, is, refused, told}
+use Rattle.interval.specs.Answer.{is, refused, told}
 use Rattle.interval.specs.Ends.{rangeOf, leastOf, greatestOf}
 use Rattle.interval.specs.Mended.{ranged, strict, lowCorner, highCorner}
 use Rattle.interval.proofs.Ends.{min-is, max-is}

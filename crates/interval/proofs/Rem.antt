@@ -1,10 +1,9 @@
 -- The remainder's range: it covers, and its ends fit.
-use mathlib.Core.Path.{_≡_, refl, sym, _∙_, ap}
+use mathlib.Core.Path.{_≡_}
 use mathlib.Core.Logic.{_≢_, _⊎_, inl, inr}
-use Prim.Native.Nat.{_<_, _^_}
 use lib.Pow.{pow-pos}
-use lib.IntN.{ℤ, pos, negsuc, negℤ, natAbs, _+ℤ_, _-ℤ_}
-use lib.Signed.{_≤ℤ_, _<ℤ_, remZ}
+use lib.IntN.{ℤ, pos, negsuc, negℤ, _+ℤ_, _-ℤ_}
+use lib.Signed.{_≤ℤ_, remZ}
 use mir.Syntax.{Width, w8, w16, w32, w64, w128}
 use mir.Val.{hbits}
 use Rattle.whole.specs.Range.{least, greatest}
@@ -12,7 +11,7 @@ use Rattle.whole.proofs.Linear.{ints, abs, from-≢}
 use Rattle.whole.proofs.Linear as L
 use Rattle.whole.proofs.Shapes.{lin}
 use Rattle.whole.proofs.Divide.{rem-small, rem-nonneg, rem-nonpos}
-use Rattle.interval.specs.Set.{Interval, _⋯_, _∈_, Proper}
+use Rattle.interval.specs.Set.{Interval, _∈_, Proper}
 use Rattle.interval.specs.Mended.{magnitude, remWithin, remRange}
 use Rattle.whole.proofs.Decides.{branch, le-test}
 use Rattle.interval.proofs.Test.{only-test}

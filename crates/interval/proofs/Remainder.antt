@@ -2,8 +2,8 @@
 use mathlib.Core.Path.{_≡_, refl, sym, _∙_}
 use mathlib.Core.Logic.{_≢_, _⊎_, inl, inr}
 use mathlib.Core.Bool.{Bool, true, false, _&&_, _||_}
-use lib.IntN.{ℤ, pos, negsuc, negℤ, natAbs, _+ℤ_, _-ℤ_, +ℤ-idl}
-use lib.Signed.{_≤ℤ_, _<ℤ_, quotZ, remZ}
+use lib.IntN.{ℤ, pos, negsuc, negℤ, _+ℤ_, _-ℤ_, +ℤ-idl}
+use lib.Signed.{_≤ℤ_, quotZ, remZ}
 use lib.Pow.{pow-pos}
 use mir.Syntax.{Width, w64}
 use mir.Val.{SFits, toZ, ofZ, hbits}

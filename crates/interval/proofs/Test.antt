@@ -1,12 +1,11 @@
 -- The tests on intervals and what they decide; the tests on numbers are `whole`'s (Decides).
-use mathlib.Core.Path.{_≡_, refl, sym}
+use mathlib.Core.Path.{_≡_}
 use mathlib.Core.Logic.{_≢_, _⊎_, inl, inr}
-use mathlib.Core.Bool.{Bool, true, false}
-use lib.IntN.{ℤ, pos}
-use lib.Signed.{_≤ℤ_, _<ℤ_}
+use mathlib.Core.Bool.{true, false}
+use lib.IntN.{ℤ}
 use Rattle.whole.proofs.Linear.{ints}
-use Rattle.whole.proofs.Decides.{Decides, both, weaken, le-test, lt-test, eq-test, is-true, is-false}
-use Rattle.interval.specs.Set.{Interval, _∈_, _∉_, _∈?_, isOnly, empty?}
+use Rattle.whole.proofs.Decides.{Decides, both, weaken, le-test, eq-test, is-true, is-false}
+use Rattle.interval.specs.Set.{Interval, _∈_, _∉_, _∈?_, isOnly}
 
 pub in-test : (x : ℤ) (i : Interval) → Decides (x ∈ i) (x ∉ i) (x ∈? i)
 in-test x i = weaken (λ h. record { low = h .0; high = h .1 }) (λ h. h) (both (le-test (i .min) x) (le-test x (i .max)))

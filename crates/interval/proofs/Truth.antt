@@ -1,10 +1,10 @@
 -- Comparisons and logic: each is a test on two numbers, shown by a verdict of two tests on their ranges.
 use mathlib.Core.Path.{_≡_, refl}
 use mathlib.Core.Logic.{_≢_, _⊎_, inl, inr}
-use mathlib.Core.Bool.{Bool, true, false, not, _&&_, _||_}
+use mathlib.Core.Bool.{Bool, not, _&&_, _||_}
 use lib.IntN.{ℤ, pos}
 use lib.Signed.{_≤ℤ_, _<ℤ_}
-use Rattle.whole.proofs.Linear.{ints, from-≢, split}
+use Rattle.whole.proofs.Linear.{ints, split}
 use Rattle.whole.specs.Test.{_≤?_, _<?_, _≟_, truth}
 use Rattle.interval.specs.Set.{Interval, _⋯_, _∈_, single, isOnly}
 use Rattle.interval.specs.Mended.{verdict, ltV, leV, eqV, andV, orV, notV}

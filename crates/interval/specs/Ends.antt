@@ -1,5 +1,4 @@
 -- The ends of a range as exact numbers: the range between two, and the lesser and the greater of two, each asking that both fit.
-use lib.IntN.{ℤ}
 use Rattle.whole.specs.Whole.{minℤ, maxℤ}
 use Rattle.whole.specs.declared.Exact.{Exact}
 use Rattle.whole.specs.declared.Exact.the-variants.{Is, DoesNotFit}

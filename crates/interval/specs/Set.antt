@@ -1,7 +1,7 @@
 -- What an interval stands for, and when it is canonical, at a width.
 use mathlib.Core.Bool.{Bool, _&&_, _||_, not}
 use mathlib.Core.Logic.{_⊎_}
-use lib.IntN.{ℤ, pos}
+use lib.IntN.{ℤ}
 use lib.Signed.{_≤ℤ_, _<ℤ_}
 use mir.Syntax.{Width}
 use Rattle.whole.specs.Range.{least, greatest}

@@ -6,8 +6,8 @@ use whole::MAX;
 use whole::MIN;
 use whole::max_of;
 ghost use mathlib.Core.Path.{_≡_};
-ghost use mathlib.Core.Bool.{Bool, true, false, _&&_};
-ghost use lib.IntN.{ℤ, pos};
+ghost use mathlib.Core.Bool.{false, _&&_};
+ghost use lib.IntN.{pos};
 ghost use mir.Syntax.{w64};
 ghost use Rattle.whole.specs.Test.{_≟_};
 ghost use Rattle.whole.specs.Range.{least, greatest};
@@ -37,12 +37,6 @@ pub enum IntervalAnswer {
     Refused(Refusal),
 }
 
-pub const BOOL_RANGE: Interval = Interval { min: 0, max: 1 };
-
-pub const TRUE_RANGE: Interval = Interval { min: 1, max: 1 };
-
-pub const FALSE_RANGE: Interval = Interval { min: 0, max: 0 };
-
 // Two intervals, one for each side of a comparison.
 pub struct Pair {
     pub left: Interval,
@@ -53,6 +47,13 @@ pub enum PairAnswer {
     Is(Pair),
     Refused(Refusal),
 }
+
+// The ranges of truth: both, true and false.
+pub const BOOL_RANGE: Interval = Interval { min: 0, max: 1 };
+
+pub const TRUE_RANGE: Interval = Interval { min: 1, max: 1 };
+
+pub const FALSE_RANGE: Interval = Interval { min: 0, max: 0 };
 
 impl Interval {
     pub const TOP: Interval = Interval { min: MIN, max: MAX };
@@ -73,12 +74,14 @@ impl Interval {
         Interval { min: MIN, max: n }
     }
 
+    // n alone.
     pub fn of_number(n: i64) -> Interval
         ensures { λ r. ⌜ r ≡ single n ⌝ }
     {
         Interval { min: n, max: n }
     }
 
+    // The numbers of a sign, and 0 with those of NonZero.
     pub fn of_sign(s: Sign) -> Interval
         ensures { λ r. ⌜ r ≡ ofSign s ⌝ }
     {
@@ -94,6 +97,7 @@ impl Interval {
         }
     }
 
+    // Its one number, if min is max.
     pub fn singleton(self) -> Single
         ensures { λ r. ⌜ r ≡ singleton self ⌝ }
     {
@@ -104,6 +108,7 @@ impl Interval {
         }
     }
 
+    // Whether it is bottom, the pair [MAX, MIN].
     pub fn is_bottom(self) -> bool
         ensures { λ r. ⌜ r ≡ isBottom w64 self ⌝ }
     {

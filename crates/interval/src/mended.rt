@@ -3,7 +3,6 @@ use super::BOOL_RANGE;
 use super::FALSE_RANGE;
 use super::Interval;
 use super::IntervalAnswer;
-use super::TRUE_RANGE;
 use super::both_single;
 use super::greatest_of;
 use super::ported;
@@ -11,8 +10,6 @@ use super::single_rem;
 use super::verdict;
 use refusal::Refusal;
 use whole::Exact;
-use whole::MAX;
-use whole::MIN;
 use whole::exact_add;
 use whole::exact_mul;
 use whole::exact_neg;
@@ -21,12 +18,12 @@ use whole::max_of;
 use whole::min_of;
 use whole::saturating_add;
 ghost use mathlib.Core.Path.{_≡_};
-ghost use mathlib.Core.Bool.{Bool, true, false, _&&_, _||_};
-ghost use lib.IntN.{ℤ, pos, negℤ, _+ℤ_, _-ℤ_, _*ℤ_};
+ghost use mathlib.Core.Bool.{true, false, _&&_, _||_};
+ghost use lib.IntN.{pos, negℤ, _-ℤ_};
 ghost use mir.Syntax.{w64};
 ghost use Rattle.whole.specs.Choice.{pick};
 ghost use Rattle.whole.specs.Whole.{maxℤ};
-ghost use Rattle.whole.specs.Test.{_≤?_, _<?_, _≟_};
+ghost use Rattle.whole.specs.Test.{_≤?_, _<?_};
 ghost use Rattle.interval.specs.Set.{top, bottom, isOnly, empty?, canonical?};
 ghost use Rattle.interval.specs.Answer.{told};
 ghost use Rattle.interval.specs.Ends.{rangeOf, leastOf, greatestOf};
@@ -99,12 +96,14 @@ fn range_of(low: Exact, high: Exact) -> IntervalAnswer
     }
 }
 
+// The least range of all opposites.
 pub fn neg(a: Interval) -> IntervalAnswer
     ensures { λ r. ⌜ told r ≡ mended.neg w64 a ⌝ }
 {
     strict(a, a, range_of(exact_neg(a.max), exact_neg(a.min)))
 }
 
+// The least range of all sums.
 pub fn add(a: Interval, b: Interval) -> IntervalAnswer
     ensures { λ r. ⌜ told r ≡ mended.add w64 a b ⌝ }
 {
@@ -115,6 +114,7 @@ pub fn add(a: Interval, b: Interval) -> IntervalAnswer
     )
 }
 
+// The least range of all differences.
 pub fn sub(a: Interval, b: Interval) -> IntervalAnswer
     ensures { λ r. ⌜ told r ≡ mended.sub w64 a b ⌝ }
 {
@@ -148,6 +148,7 @@ fn corner_range(p: Exact, q: Exact, r: Exact, s: Exact) -> IntervalAnswer
     )
 }
 
+// The least range of all products.
 pub fn mul(a: Interval, b: Interval) -> IntervalAnswer
     ensures { λ r. ⌜ told r ≡ mended.mul w64 a b ⌝ }
 {
@@ -173,6 +174,7 @@ fn quotients(b: Interval) -> Interval
     }
 }
 
+// Every number, or none by [0, 0].
 pub fn div(a: Interval, b: Interval) -> IntervalAnswer
     ensures { λ r. ⌜ told r ≡ mended.div w64 a b ⌝ }
 {
@@ -229,6 +231,7 @@ fn rem_of(a: Interval, b: Interval) -> IntervalAnswer
     IntervalAnswer::Is(rem_range(a, b))
 }
 
+// The remainders, by document 01's rule with the greatest magnitude in b.
 pub fn rem(a: Interval, b: Interval) -> IntervalAnswer
     ensures { λ r. ⌜ told r ≡ mended.rem w64 a b ⌝ }
 {
@@ -252,30 +255,35 @@ fn equal_never(a: Interval, b: Interval) -> bool
     a.max < b.min || b.max < a.min
 }
 
+// Whether every pair is equal, or none.
 pub fn equals(a: Interval, b: Interval) -> IntervalAnswer
     ensures { λ r. ⌜ told r ≡ mended.eq w64 a b ⌝ }
 {
     lenient(a, b, verdict(equal_ever(a, b), equal_never(a, b)))
 }
 
+// Whether the left number is less in every pair, or in none.
 pub fn less(a: Interval, b: Interval) -> IntervalAnswer
     ensures { λ r. ⌜ told r ≡ mended.lt w64 a b ⌝ }
 {
     lenient(a, b, verdict(a.max < b.min, b.max <= a.min))
 }
 
+// Whether the left number is greater in every pair, or in none.
 pub fn greater(a: Interval, b: Interval) -> IntervalAnswer
     ensures { λ r. ⌜ told r ≡ mended.gt w64 a b ⌝ }
 {
     less(b, a)
 }
 
+// Whether the left number is at most the right one in every pair, or in none.
 pub fn less_or_equal(a: Interval, b: Interval) -> IntervalAnswer
     ensures { λ r. ⌜ told r ≡ mended.le w64 a b ⌝ }
 {
     lenient(a, b, verdict(a.max <= b.min, b.max < a.min))
 }
 
+// Whether the left number is at least the right one in every pair, or in none.
 pub fn greater_or_equal(a: Interval, b: Interval) -> IntervalAnswer
     ensures { λ r. ⌜ told r ≡ mended.ge w64 a b ⌝ }
 {

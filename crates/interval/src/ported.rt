@@ -25,11 +25,11 @@ use whole::min_of_four;
 use whole::saturating_add;
 use whole::saturating_mul;
 ghost use mathlib.Core.Path.{_≡_};
-ghost use mathlib.Core.Bool.{Bool, true, false, _&&_, _||_};
+ghost use mathlib.Core.Bool.{true, false, _&&_, _||_};
 ghost use lib.IntN.{ℤ, pos, negℤ, natAbs, _+ℤ_, _-ℤ_};
 ghost use mir.Syntax.{w64};
 ghost use Rattle.whole.specs.Choice.{pick};
-ghost use Rattle.whole.specs.Test.{_≤?_, _<?_, _≟_};
+ghost use Rattle.whole.specs.Test.{_<?_, _≟_};
 ghost use Rattle.whole.specs.Whole.{maxℤ, min4, max4};
 ghost use Rattle.whole.specs.Range.{least, greatest};
 ghost use Rattle.whole.specs.Exact.{exactly};
@@ -53,18 +53,21 @@ fn one_only(a: Interval, b: Interval, n: i64) -> bool
     if a.is_only(n) { true } else { b.is_only(n) }
 }
 
+// 1 if both are 1 alone, 0 if one is 0 alone, else both.
 pub fn logical_and(a: Interval, b: Interval) -> Interval
     ensures { λ r. ⌜ r ≡ andV a b ⌝ }
 {
     verdict(both_only(a, b, 1), one_only(a, b, 0))
 }
 
+// 1 if one is 1 alone, 0 if both are 0 alone, else both.
 pub fn logical_or(a: Interval, b: Interval) -> Interval
     ensures { λ r. ⌜ r ≡ orV a b ⌝ }
 {
     verdict(one_only(a, b, 1), both_only(a, b, 0))
 }
 
+// The other of 0 and 1, or both.
 pub fn logical_not(a: Interval) -> Interval
     ensures { λ r. ⌜ r ≡ notV a ⌝ }
 {
@@ -92,6 +95,7 @@ fn same_one(a: Single, b: Single) -> Order
     }
 }
 
+// Less or Greater if every pair is so, Equal for equal single numbers, else None.
 pub fn strict_cmp(a: Interval, b: Interval) -> Order
     ensures { λ r. ⌜ r ≡ ported.strictCmp a b ⌝ }
 {
@@ -107,6 +111,7 @@ pub fn strict_cmp(a: Interval, b: Interval) -> Order
     same_one(a.singleton(), b.singleton())
 }
 
+// As strict_cmp, but ranges that touch come first as Less, then as Greater.
 pub fn weak_cmp(a: Interval, b: Interval) -> Order
     ensures { λ r. ⌜ r ≡ ported.weakCmp a b ⌝ }
 {
@@ -122,6 +127,7 @@ pub fn weak_cmp(a: Interval, b: Interval) -> Order
     same_one(a.singleton(), b.singleton())
 }
 
+// Whether the numbers are equal, by strict_cmp.
 pub fn equals(a: Interval, b: Interval) -> Interval
     ensures { λ r. ⌜ r ≡ ported.equalBy (ported.strictCmp a b) ⌝ }
 {
@@ -275,6 +281,7 @@ fn around(a: Interval, b: Interval) -> bool
     a.min <= b.min && a.max >= b.max
 }
 
+// The order: inclusion.
 pub fn partial_cmp(a: Interval, b: Interval) -> Order
     ensures { λ r. ⌜ r ≡ ported.partialCmp a b ⌝ }
 {
@@ -290,6 +297,7 @@ pub fn partial_cmp(a: Interval, b: Interval) -> Order
     Order::None
 }
 
+// The least interval that holds both.
 pub fn join(a: Interval, b: Interval) -> Interval
     ensures { λ r. ⌜ r ≡ mended.join a b ⌝ }
 {
@@ -324,6 +332,7 @@ pub fn widen(new: Interval, previous: Interval) -> Interval
     }
 }
 
+// The common numbers.
 pub fn meet(a: Interval, b: Interval) -> Interval
     ensures { λ r. ⌜ r ≡ ported.meet a b ⌝ }
 {
@@ -388,6 +397,7 @@ fn add_max(x: i64, y: i64) -> i64
     }
 }
 
+// The sums, saturated; an infinite end stays infinite.
 pub fn add(a: Interval, b: Interval) -> Interval
     ensures { λ r. ⌜ r ≡ ported.add a b ⌝ }
 {
@@ -413,6 +423,7 @@ fn neg_min(x: i64) -> i64
     if x == MIN { MAX } else { -x }
 }
 
+// The opposites; an infinite end changes its side.
 pub fn neg(a: Interval) -> IntervalAnswer
     ensures { λ r. ⌜ told r ≡ ported.neg a ⌝ }
 {
@@ -448,6 +459,7 @@ fn spread(p: i64, q: i64, r: i64, s: i64) -> Interval
     }
 }
 
+// From the least to the greatest of the four saturated corner products.
 pub fn mul(a: Interval, b: Interval) -> Interval
     ensures { λ r. ⌜ r ≡ ported.mul a b ⌝ }
 {
@@ -506,6 +518,7 @@ fn rem_nothing(a: Interval, b: Interval) -> bool
     if one_bottom(a, b) { true } else { b.is_only(0) }
 }
 
+// The remainders, by the greatest absolute value of the divisor's ends.
 pub fn rem(a: Interval, b: Interval) -> IntervalAnswer
     ensures { λ r. ⌜ told r ≡ ported.rem a b ⌝ }
 {

@@ -1,16 +1,19 @@
 -- Sheets: bytes and steps are each other's, refused bytes are no sheet, what was read is valid, and answers are determined.
-use Prim.Native.Nat.{ℕ, _*_, _/_, _%_, _≤_}
+use Prim.Native.Nat.{ℕ, _*_, _/_, _%_, _^_, _≤_, _<_}
 use mathlib.Core.Path.{_≡_, refl, sym, ap, _∙_}
 use mathlib.Core.List.{List, [], _∷_}
 use native.Mathlib.Omega.{arith}
 use lib.IntN.{ℤ, pos}
 use lib.ListN.{length, take}
 use lib.Seq.{sets}
+use mir.Syntax.{w64}
+use mir.Val.{SFits}
 use Rattle.refusal.specs.Number.{numberOf}
 use Rattle.refusal.proofs.Claims.{number-tells}
 use Rattle.whole.specs.Test.{_<?_}
 use Rattle.sheet.specs.Got.{got}
 use Rattle.sheet.specs.Number.{readNumber, groupsFrom}
+use Rattle.sheet.specs.Signed.{foldSigned, unfoldNumber}
 use Rattle.sheet.specs.Operator.{fieldsOf}
 use Rattle.sheet.specs.Field.{fieldAt}
 use Rattle.sheet.specs.Step.{Step, step, fieldsAt, stepAt}
@@ -25,6 +28,8 @@ use Rattle.sheet.specs.declared.ReadAnswer.{ReadAnswer}
 use Rattle.sheet.specs.declared.ReadAnswer.the-variants.{Steps, RefusedAt, Refused}
 use Rattle.sheet.specs.declared.WriteAnswer.{WriteAnswer}
 use Rattle.sheet.specs.declared.WriteAnswer.the-variants.{Bytes as Written, RefusedAt as UnwrittenAt, Refused as Unwritten}
+use Rattle.sheet.proofs.Signs.{unfold-fold, fold-unfold}
+use Rattle.sheet.proofs.Fielded.{fold-below, unfold-fits}
 use Rattle.sheet.proofs.Parts.{length-flat}
 use Rattle.sheet.proofs.Plans.{steps-count}
 use Rattle.sheet.proofs.Sheeted.{RightFrom, right-steps, steps-right, sheet-read, sheet-written}
@@ -110,6 +115,13 @@ pub read-valid : (s : List ℕ) → Bytes s → (xs : List Step) (end : ℕ) →
 read-valid s h xs end e =
     let q = sheet-read s h xs end e in
     record { few = q .few; steps = valid-from 0 xs (q .right) }
+
+-- Every signed number of 64 bits is folded to a number below 2^64, and the other way round.
+pub signed-folds : (z : ℤ) → SFits w64 z → (foldSigned z < 2 ^ 64) × (unfoldNumber (foldSigned z) ≡ z)
+signed-folds z h = (fold-below z h, unfold-fold z)
+
+pub number-unfolds : (n : ℕ) → n < 2 ^ 64 → SFits w64 (unfoldNumber n) × (foldSigned (unfoldNumber n) ≡ n)
+number-unfolds n h = (unfold-fits n h, fold-unfold n)
 
 -- The sheet of number (14), read.
 pub fourteen : List ℕ

@@ -1,7 +1,7 @@
-use Rattle.interval.specs.Ends.{greatestOf}
+use borrow.Author.Needs.{needs}
 use Rattle.whole.proofs.Calls.{max-called}
 use Rattle.whole.proofs.Flags.{flags}
-use borrow.Author.Needs.{needs}
+use Rattle.interval.specs.Ends.{greatestOf}
 use Rattle.interval.proofs.greatest_of.Statement.{statement}
 use Rattle.interval.proofs.greatest_of.Tie as tie
 

@@ -1,5 +1,5 @@
-use Rattle.interval.specs.Ported.{sideSign}
 use Rattle.whole.proofs.Flags.{flags}
+use Rattle.interval.specs.Ported.{sideSign}
 use Rattle.interval.proofs.side_of.Statement.{statement}
 use Rattle.interval.proofs.side_of.Tie as tie
 

@@ -1,7 +1,7 @@
-use Rattle.interval.proofs.Calls.{asked}
-use Rattle.interval.specs.Ported.{signOf}
-use Rattle.whole.proofs.Flags.{flags}
 use borrow.Author.Needs.{needs}
+use Rattle.whole.proofs.Flags.{flags}
+use Rattle.interval.specs.Ported.{signOf}
+use Rattle.interval.proofs.Calls.{asked}
 use Rattle.interval.proofs.sign_of.Statement.{statement}
 use Rattle.interval.proofs.sign_of.Tie as tie
 

@@ -1,9 +1,7 @@
-use mathlib.Core.Path.{_∙_}
 use mathlib.Core.Logic.{_≢_}
 use lib.IntN.{pos, negsuc}
 use mir.Syntax.{w64}
 use mir.Facts.{toZ-ofZ}
-use Rattle.whole.specs.Range.{least}
 use Rattle.whole.proofs.Fits.{ones-fits, least-fits}
 use Rattle.whole.proofs.Flags.{eq-true, eq-false, divisor}
 use Rattle.whole.proofs.Decides.{eq-test, no}

@@ -1,6 +1,5 @@
-use Rattle.whole.proofs.Flags.{flags}
-use Rattle.interval.specs.Ported.{ofSign}
 use borrow.Author.Needs.{needs}
+use Rattle.interval.specs.Ported.{ofSign}
 use Rattle.interval.proofs.Interval.of_sign.Statement.{statement}
 use Rattle.interval.proofs.Interval.of_sign.Tie as tie
 

@@ -1,7 +1,7 @@
+use borrow.Author.Needs.{needs}
+use Rattle.whole.proofs.Flags.{flags}
 use Rattle.interval.specs.Mended.{add}
 use Rattle.interval.proofs.Ranges.{ranged-made, add-called}
-use Rattle.whole.proofs.Flags.{flags}
-use borrow.Author.Needs.{needs}
 use Rattle.interval.proofs.mended.add.Statement.{statement}
 use Rattle.interval.proofs.mended.add.Tie as tie
 

@@ -1,6 +1,6 @@
-use Rattle.interval.proofs.Calls.{canonical-no, canonical-yes}
-use Rattle.whole.proofs.Flags.{flags, told}
 use borrow.Author.Needs.{needs}
+use Rattle.whole.proofs.Flags.{flags, told}
+use Rattle.interval.proofs.Calls.{canonical-no, canonical-yes}
 use Rattle.interval.proofs.mended.canonical.Statement.{statement}
 use Rattle.interval.proofs.mended.canonical.Tie as tie
 

@@ -1,6 +1,6 @@
+use borrow.Author.Needs.{needs}
 use Rattle.whole.proofs.Flags.{flags}
 use Rattle.interval.proofs.Ranges.{cornered}
-use borrow.Author.Needs.{needs}
 use Rattle.interval.proofs.mended.corner_range.Statement.{statement}
 use Rattle.interval.proofs.mended.corner_range.Tie as tie
 

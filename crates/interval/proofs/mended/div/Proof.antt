@@ -1,6 +1,6 @@
+use borrow.Author.Needs.{needs}
 use Rattle.interval.specs.Mended.{div}
 use Rattle.interval.proofs.Calls.{strict-is}
-use borrow.Author.Needs.{needs}
 use Rattle.interval.proofs.mended.div.Statement.{statement}
 use Rattle.interval.proofs.mended.div.Tie as tie
 

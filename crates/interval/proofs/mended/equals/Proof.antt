@@ -1,6 +1,6 @@
+use borrow.Author.Needs.{needs}
 use Rattle.interval.specs.Mended.{eq}
 use Rattle.interval.proofs.Calls.{lenient-made}
-use borrow.Author.Needs.{needs}
 use Rattle.interval.proofs.mended.equals.Statement.{statement}
 use Rattle.interval.proofs.mended.equals.Tie as tie
 

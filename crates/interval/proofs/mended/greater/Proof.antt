@@ -1,5 +1,5 @@
-use Rattle.interval.specs.Mended.{gt}
 use borrow.Author.Needs.{needs}
+use Rattle.interval.specs.Mended.{gt}
 use Rattle.interval.proofs.mended.greater.Statement.{statement}
 use Rattle.interval.proofs.mended.greater.Tie as tie
 

@@ -1,5 +1,5 @@
-use Rattle.interval.specs.Mended.{ge}
 use borrow.Author.Needs.{needs}
+use Rattle.interval.specs.Mended.{ge}
 use Rattle.interval.proofs.mended.greater_or_equal.Statement.{statement}
 use Rattle.interval.proofs.mended.greater_or_equal.Tie as tie
 

@@ -1,7 +1,7 @@
-use Rattle.interval.specs.Ends.{leastOf}
+use borrow.Author.Needs.{needs}
 use Rattle.whole.proofs.Calls.{min-called}
 use Rattle.whole.proofs.Flags.{flags}
-use borrow.Author.Needs.{needs}
+use Rattle.interval.specs.Ends.{leastOf}
 use Rattle.interval.proofs.mended.least_of.Statement.{statement}
 use Rattle.interval.proofs.mended.least_of.Tie as tie
 

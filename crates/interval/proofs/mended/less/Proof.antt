@@ -1,7 +1,7 @@
-use Rattle.interval.specs.Mended.{lt}
-use Rattle.whole.proofs.Flags.{bools}
-use Rattle.interval.proofs.Calls.{lenient-made}
 use borrow.Author.Needs.{needs}
+use Rattle.whole.proofs.Flags.{bools}
+use Rattle.interval.specs.Mended.{lt}
+use Rattle.interval.proofs.Calls.{lenient-made}
 use Rattle.interval.proofs.mended.less.Statement.{statement}
 use Rattle.interval.proofs.mended.less.Tie as tie
 

@@ -1,7 +1,7 @@
-use Rattle.interval.specs.Mended.{le}
-use Rattle.whole.proofs.Flags.{bools}
-use Rattle.interval.proofs.Calls.{lenient-made}
 use borrow.Author.Needs.{needs}
+use Rattle.whole.proofs.Flags.{bools}
+use Rattle.interval.specs.Mended.{le}
+use Rattle.interval.proofs.Calls.{lenient-made}
 use Rattle.interval.proofs.mended.less_or_equal.Statement.{statement}
 use Rattle.interval.proofs.mended.less_or_equal.Tie as tie
 

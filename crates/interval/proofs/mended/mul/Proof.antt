@@ -1,7 +1,7 @@
-use Rattle.whole.proofs.Flags.{flags}
-use Rattle.interval.proofs.Ranges.{corners-made, mul-called}
-use Rattle.interval.specs.Mended.{mul}
 use borrow.Author.Needs.{needs}
+use Rattle.whole.proofs.Flags.{flags}
+use Rattle.interval.specs.Mended.{mul}
+use Rattle.interval.proofs.Ranges.{corners-made, mul-called}
 use Rattle.interval.proofs.mended.mul.Statement.{statement}
 use Rattle.interval.proofs.mended.mul.Tie as tie
 

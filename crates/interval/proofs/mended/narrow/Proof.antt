@@ -1,7 +1,7 @@
-use Rattle.whole.proofs.Flags.{flags}
-use Rattle.interval.proofs.Calls.{asked, is-made, filled-called}
-use Rattle.interval.specs.Mended.{narrow}
 use borrow.Author.Needs.{needs}
+use Rattle.whole.proofs.Flags.{flags}
+use Rattle.interval.specs.Mended.{narrow}
+use Rattle.interval.proofs.Calls.{asked, is-made, filled-called}
 use Rattle.interval.proofs.mended.narrow.Statement.{statement}
 use Rattle.interval.proofs.mended.narrow.Tie as tie
 

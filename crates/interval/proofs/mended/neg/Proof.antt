@@ -1,7 +1,7 @@
+use borrow.Author.Needs.{needs}
+use Rattle.whole.proofs.Flags.{flags}
 use Rattle.interval.specs.Mended.{neg}
 use Rattle.interval.proofs.Ranges.{ranged-made, neg-called}
-use Rattle.whole.proofs.Flags.{flags}
-use borrow.Author.Needs.{needs}
 use Rattle.interval.proofs.mended.neg.Statement.{statement}
 use Rattle.interval.proofs.mended.neg.Tie as tie
 

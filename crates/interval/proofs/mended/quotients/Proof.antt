@@ -1,6 +1,6 @@
+use borrow.Author.Needs.{needs}
 use Rattle.whole.proofs.Flags.{flags}
 use Rattle.interval.proofs.Calls.{asked}
-use borrow.Author.Needs.{needs}
 use Rattle.interval.proofs.mended.quotients.Statement.{statement}
 use Rattle.interval.proofs.mended.quotients.Tie as tie
 

@@ -1,6 +1,6 @@
-use Rattle.interval.specs.Ends.{rangeOf}
-use Rattle.whole.proofs.Flags.{flags}
 use borrow.Author.Needs.{needs}
+use Rattle.whole.proofs.Flags.{flags}
+use Rattle.interval.specs.Ends.{rangeOf}
 use Rattle.interval.proofs.mended.range_of.Statement.{statement}
 use Rattle.interval.proofs.mended.range_of.Tie as tie
 

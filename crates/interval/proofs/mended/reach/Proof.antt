@@ -1,7 +1,7 @@
+use borrow.Author.Needs.{needs}
 use Rattle.whole.proofs.Flags.{flags}
 use Rattle.whole.proofs.Sums.{results}
 use Rattle.interval.proofs.Remainder.{negated-need, reached}
-use borrow.Author.Needs.{needs}
 use Rattle.interval.proofs.mended.reach.Statement.{statement}
 use Rattle.interval.proofs.mended.reach.Tie as tie
 

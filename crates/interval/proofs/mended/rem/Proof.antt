@@ -1,7 +1,7 @@
+use borrow.Author.Needs.{needs}
 use Rattle.interval.specs.Mended.{rem}
 use Rattle.interval.proofs.Calls.{asked}
 use Rattle.interval.proofs.Remainder.{empty-strict, strict-called}
-use borrow.Author.Needs.{needs}
 use Rattle.interval.proofs.mended.rem.Statement.{statement}
 use Rattle.interval.proofs.mended.rem.Tie as tie
 

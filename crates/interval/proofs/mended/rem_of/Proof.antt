@@ -1,7 +1,7 @@
+use borrow.Author.Needs.{needs}
 use Rattle.whole.proofs.Flags.{flags}
 use Rattle.interval.proofs.Calls.{asked, is-made}
 use Rattle.interval.proofs.Remainder.{remains}
-use borrow.Author.Needs.{needs}
 use Rattle.interval.proofs.mended.rem_of.Statement.{statement}
 use Rattle.interval.proofs.mended.rem_of.Tie as tie
 

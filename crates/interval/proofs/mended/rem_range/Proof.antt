@@ -1,7 +1,6 @@
 use Rattle.whole.proofs.Flags.{flags}
 use Rattle.interval.proofs.Calls.{asked}
 use Rattle.interval.proofs.Remainder.{remains}
-use borrow.Author.Needs.{needs}
 use Rattle.interval.proofs.mended.rem_range.Statement.{statement}
 use Rattle.interval.proofs.mended.rem_range.Tie as tie
 

@@ -1,7 +1,7 @@
+use borrow.Author.Needs.{needs}
+use Rattle.whole.proofs.Flags.{flags}
 use Rattle.interval.specs.Mended.{remWithin}
 use Rattle.interval.proofs.Calls.{asked, made}
-use Rattle.whole.proofs.Flags.{flags}
-use borrow.Author.Needs.{needs}
 use Rattle.interval.proofs.mended.remainders.Statement.{statement}
 use Rattle.interval.proofs.mended.remainders.Tie as tie
 

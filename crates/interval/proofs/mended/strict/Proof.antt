@@ -1,6 +1,6 @@
-use Rattle.interval.proofs.Calls.{asked}
-use Rattle.whole.proofs.Flags.{flags}
 use borrow.Author.Needs.{needs}
+use Rattle.whole.proofs.Flags.{flags}
+use Rattle.interval.proofs.Calls.{asked}
 use Rattle.interval.proofs.mended.strict.Statement.{statement}
 use Rattle.interval.proofs.mended.strict.Tie as tie
 

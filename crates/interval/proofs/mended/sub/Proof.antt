@@ -1,7 +1,7 @@
+use borrow.Author.Needs.{needs}
+use Rattle.whole.proofs.Flags.{flags}
 use Rattle.interval.specs.Mended.{sub}
 use Rattle.interval.proofs.Ranges.{ranged-made, sub-called}
-use Rattle.whole.proofs.Flags.{flags}
-use borrow.Author.Needs.{needs}
 use Rattle.interval.proofs.mended.sub.Statement.{statement}
 use Rattle.interval.proofs.mended.sub.Tie as tie
 

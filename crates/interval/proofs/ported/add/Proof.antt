@@ -1,8 +1,8 @@
+use borrow.Author.Needs.{needs}
+use Rattle.whole.proofs.Flags.{flags}
+use Rattle.interval.specs.Ported.{add}
 use Rattle.interval.proofs.PortedCalls.{ends}
 use Rattle.interval.proofs.Calls.{asked, made}
-use Rattle.interval.specs.Ported.{add}
-use Rattle.whole.proofs.Flags.{flags}
-use borrow.Author.Needs.{needs}
 use Rattle.interval.proofs.ported.add.Statement.{statement}
 use Rattle.interval.proofs.ported.add.Tie as tie
 

@@ -1,8 +1,8 @@
+use borrow.Author.Needs.{needs}
+use Rattle.whole.proofs.Flags.{flags}
+use Rattle.interval.specs.Ported.{addMax}
 use Rattle.interval.proofs.PortedCalls.{sum-called}
 use Rattle.interval.proofs.Calls.{asked}
-use Rattle.interval.specs.Ported.{addMax}
-use Rattle.whole.proofs.Flags.{flags}
-use borrow.Author.Needs.{needs}
 use Rattle.interval.proofs.ported.add_max.Statement.{statement}
 use Rattle.interval.proofs.ported.add_max.Tie as tie
 

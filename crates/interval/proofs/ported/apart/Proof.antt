@@ -1,5 +1,5 @@
-use Rattle.interval.proofs.Calls.{ors, asked}
 use borrow.Author.Needs.{needs}
+use Rattle.interval.proofs.Calls.{ors, asked}
 use Rattle.interval.proofs.ported.apart.Statement.{statement}
 use Rattle.interval.proofs.ported.apart.Tie as tie
 

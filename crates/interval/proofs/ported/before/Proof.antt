@@ -1,6 +1,6 @@
-use Rattle.interval.proofs.PortedCalls.{beside}
 use Rattle.whole.proofs.Sums.{results}
 use Rattle.whole.proofs.Flags.{flags}
+use Rattle.interval.proofs.PortedCalls.{beside}
 use Rattle.interval.proofs.ported.before.Statement.{statement}
 use Rattle.interval.proofs.ported.before.Tie as tie
 

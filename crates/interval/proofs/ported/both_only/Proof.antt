@@ -1,6 +1,6 @@
+use borrow.Author.Needs.{needs}
 use Rattle.interval.proofs.PortedCalls.{only-flag, only-called}
 use Rattle.interval.proofs.Calls.{ands}
-use borrow.Author.Needs.{needs}
 use Rattle.interval.proofs.ported.both_only.Statement.{statement}
 use Rattle.interval.proofs.ported.both_only.Tie as tie
 

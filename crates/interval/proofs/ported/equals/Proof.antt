@@ -1,8 +1,7 @@
-use Rattle.interval.specs.Ported.{strictCmp}
-use Rattle.whole.specs.declared.Order.the-variants.{Less, Equal, Greater, None}
 use mathlib.Core.Path.{_≡_}
-use Rattle.interval.specs.Ported.{equalBy}
 use borrow.Author.Needs.{needs}
+use Rattle.whole.specs.declared.Order.the-variants.{Less, Equal, Greater, None}
+use Rattle.interval.specs.Ported.{strictCmp, equalBy}
 use Rattle.interval.proofs.ported.equals.Statement.{statement}
 use Rattle.interval.proofs.ported.equals.Tie as tie
 

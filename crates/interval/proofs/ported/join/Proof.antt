@@ -1,8 +1,8 @@
+use borrow.Author.Needs.{needs}
+use Rattle.whole.proofs.Flags.{flags}
+use Rattle.interval.specs.Mended.{join}
 use Rattle.interval.proofs.PortedCalls.{ends}
 use Rattle.interval.proofs.Calls.{made}
-use Rattle.interval.specs.Mended.{join}
-use Rattle.whole.proofs.Flags.{flags}
-use borrow.Author.Needs.{needs}
 use Rattle.interval.proofs.ported.join.Statement.{statement}
 use Rattle.interval.proofs.ported.join.Tie as tie
 

@@ -1,6 +1,6 @@
-use Rattle.interval.proofs.PortedCalls.{largest-made}
-use Rattle.whole.proofs.Flags.{flags}
 use borrow.Author.Needs.{needs}
+use Rattle.whole.proofs.Flags.{flags}
+use Rattle.interval.proofs.PortedCalls.{largest-made}
 use Rattle.interval.proofs.ported.largest.Statement.{statement}
 use Rattle.interval.proofs.ported.largest.Tie as tie
 

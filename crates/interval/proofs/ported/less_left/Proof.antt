@@ -1,7 +1,7 @@
-use Rattle.interval.proofs.PortedCalls.{ends}
-use Rattle.interval.specs.Ported.{lessLeft}
-use Rattle.whole.proofs.Flags.{flags}
 use borrow.Author.Needs.{needs}
+use Rattle.whole.proofs.Flags.{flags}
+use Rattle.interval.specs.Ported.{lessLeft}
+use Rattle.interval.proofs.PortedCalls.{ends}
 use Rattle.interval.proofs.ported.less_left.Statement.{statement}
 use Rattle.interval.proofs.ported.less_left.Tie as tie
 

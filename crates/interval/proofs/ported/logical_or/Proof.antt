@@ -1,5 +1,5 @@
-use Rattle.interval.proofs.PortedCalls.{verdict-called}
 use borrow.Author.Needs.{needs}
+use Rattle.interval.proofs.PortedCalls.{verdict-called}
 use Rattle.interval.proofs.ported.logical_or.Statement.{statement}
 use Rattle.interval.proofs.ported.logical_or.Tie as tie
 

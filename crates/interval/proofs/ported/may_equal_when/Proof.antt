@@ -1,7 +1,7 @@
-use Rattle.interval.proofs.Calls.{asked}
-use Rattle.interval.specs.Ported.{mayEqualWhen, meet}
-use Rattle.whole.proofs.Flags.{flags}
 use borrow.Author.Needs.{needs}
+use Rattle.whole.proofs.Flags.{flags}
+use Rattle.interval.specs.Ported.{mayEqualWhen, meet}
+use Rattle.interval.proofs.Calls.{asked}
 use Rattle.interval.proofs.ported.may_equal_when.Statement.{statement}
 use Rattle.interval.proofs.ported.may_equal_when.Tie as tie
 

@@ -1,8 +1,8 @@
+use borrow.Author.Needs.{needs}
+use Rattle.whole.proofs.Flags.{flags}
+use Rattle.interval.specs.Ported.{maybeLeWhen}
 use Rattle.interval.proofs.PortedCalls.{pair-made}
 use Rattle.interval.proofs.Calls.{asked}
-use Rattle.interval.specs.Ported.{maybeLeWhen}
-use Rattle.whole.proofs.Flags.{flags}
-use borrow.Author.Needs.{needs}
 use Rattle.interval.proofs.ported.maybe_le_when.Statement.{statement}
 use Rattle.interval.proofs.ported.maybe_le_when.Tie as tie
 

@@ -1,7 +1,7 @@
-use Rattle.interval.proofs.PortedCalls.{ends}
-use Rattle.interval.specs.Ported.{meet}
-use Rattle.whole.proofs.Flags.{flags}
 use borrow.Author.Needs.{needs}
+use Rattle.whole.proofs.Flags.{flags}
+use Rattle.interval.specs.Ported.{meet}
+use Rattle.interval.proofs.PortedCalls.{ends}
 use Rattle.interval.proofs.ported.meet.Statement.{statement}
 use Rattle.interval.proofs.ported.meet.Tie as tie
 

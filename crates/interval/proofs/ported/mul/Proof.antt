@@ -1,8 +1,8 @@
+use borrow.Author.Needs.{needs}
+use Rattle.whole.proofs.Flags.{flags}
+use Rattle.interval.specs.Ported.{mul}
 use Rattle.interval.proofs.PortedCalls.{spread-called, product-called}
 use Rattle.interval.proofs.Calls.{asked}
-use Rattle.interval.specs.Ported.{mul}
-use Rattle.whole.proofs.Flags.{flags}
-use borrow.Author.Needs.{needs}
 use Rattle.interval.proofs.ported.mul.Statement.{statement}
 use Rattle.interval.proofs.ported.mul.Tie as tie
 

@@ -1,7 +1,7 @@
-use Rattle.whole.proofs.Flags.{flags}
-use Rattle.interval.proofs.Calls.{asked, made, low-called, high-called}
-use Rattle.interval.specs.Mended.{narrowed}
 use borrow.Author.Needs.{needs}
+use Rattle.whole.proofs.Flags.{flags}
+use Rattle.interval.specs.Mended.{narrowed}
+use Rattle.interval.proofs.Calls.{asked, made, low-called, high-called}
 use Rattle.interval.proofs.ported.narrow.Statement.{statement}
 use Rattle.interval.proofs.ported.narrow.Tie as tie
 

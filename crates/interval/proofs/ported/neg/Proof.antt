@@ -1,8 +1,8 @@
+use borrow.Author.Needs.{needs}
+use Rattle.whole.proofs.Flags.{flags}
+use Rattle.interval.specs.Ported.{neg}
 use Rattle.interval.proofs.PortedCalls.{ends}
 use Rattle.interval.proofs.Calls.{asked, made, is-made}
-use Rattle.interval.specs.Ported.{neg}
-use Rattle.whole.proofs.Flags.{flags}
-use borrow.Author.Needs.{needs}
 use Rattle.interval.proofs.ported.neg.Statement.{statement}
 use Rattle.interval.proofs.ported.neg.Tie as tie
 

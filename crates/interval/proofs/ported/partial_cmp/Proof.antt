@@ -1,7 +1,6 @@
-use Rattle.whole.proofs.Flags.{told}
-use Rattle.interval.specs.Ported.{partialCmp}
-use Rattle.whole.proofs.Flags.{flags}
 use borrow.Author.Needs.{needs}
+use Rattle.whole.proofs.Flags.{told, flags}
+use Rattle.interval.specs.Ported.{partialCmp}
 use Rattle.interval.proofs.ported.partial_cmp.Statement.{statement}
 use Rattle.interval.proofs.ported.partial_cmp.Tie as tie
 

@@ -1,8 +1,8 @@
+use borrow.Author.Needs.{needs}
+use Rattle.whole.proofs.Flags.{flags}
+use Rattle.interval.specs.Ported.{rem}
 use Rattle.interval.proofs.Remainder.{not-zero, or-second, single-called}
 use Rattle.interval.proofs.Calls.{asked}
-use Rattle.interval.specs.Ported.{rem}
-use Rattle.whole.proofs.Flags.{flags}
-use borrow.Author.Needs.{needs}
 use Rattle.interval.proofs.ported.rem.Statement.{statement}
 use Rattle.interval.proofs.ported.rem.Tie as tie
 

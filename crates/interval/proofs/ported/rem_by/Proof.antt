@@ -1,9 +1,9 @@
-use Rattle.whole.specs.declared.Order.the-variants.{Less, Equal, Greater, None}
 use mathlib.Core.Path.{_≡_}
-use Rattle.interval.proofs.Calls.{made}
-use Rattle.interval.specs.Ported.{remBy}
-use Rattle.whole.proofs.Flags.{flags}
 use borrow.Author.Needs.{needs}
+use Rattle.whole.specs.declared.Order.the-variants.{Less, Greater, None}
+use Rattle.whole.proofs.Flags.{flags}
+use Rattle.interval.specs.Ported.{remBy}
+use Rattle.interval.proofs.Calls.{made}
 use Rattle.interval.proofs.ported.rem_by.Statement.{statement}
 use Rattle.interval.proofs.ported.rem_by.Tie as tie
 

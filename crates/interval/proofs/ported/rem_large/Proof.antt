@@ -1,6 +1,6 @@
-use Rattle.interval.proofs.PortedCalls.{large}
-use Rattle.whole.proofs.Flags.{flags}
 use borrow.Author.Needs.{needs}
+use Rattle.whole.proofs.Flags.{flags}
+use Rattle.interval.proofs.PortedCalls.{large}
 use Rattle.interval.proofs.ported.rem_large.Statement.{statement}
 use Rattle.interval.proofs.ported.rem_large.Tie as tie
 

@@ -1,6 +1,5 @@
-use Rattle.interval.proofs.PortedCalls.{up}
 use Rattle.whole.proofs.Flags.{flags}
-use borrow.Author.Needs.{needs}
+use Rattle.interval.proofs.PortedCalls.{up}
 use Rattle.interval.proofs.ported.rem_up_to.Statement.{statement}
 use Rattle.interval.proofs.ported.rem_up_to.Tie as tie
 

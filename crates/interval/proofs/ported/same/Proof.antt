@@ -1,7 +1,7 @@
+use borrow.Author.Needs.{needs}
+use Rattle.whole.proofs.Flags.{flags}
 use Rattle.interval.proofs.PortedCalls.{number-flag, number-called}
 use Rattle.interval.proofs.Calls.{and-is, and-is-no}
-use Rattle.whole.proofs.Flags.{flags}
-use borrow.Author.Needs.{needs}
 use Rattle.interval.proofs.ported.same.Statement.{statement}
 use Rattle.interval.proofs.ported.same.Tie as tie
 

@@ -1,7 +1,6 @@
-use Rattle.interval.proofs.Calls.{differ}
-use Rattle.interval.specs.Ported.{sameOne}
-use Rattle.whole.proofs.Flags.{flags}
 use borrow.Author.Needs.{needs}
+use Rattle.whole.proofs.Flags.{flags}
+use Rattle.interval.specs.Ported.{sameOne}
 use Rattle.interval.proofs.ported.same_one.Statement.{statement}
 use Rattle.interval.proofs.ported.same_one.Tie as tie
 
@@ -19,11 +18,11 @@ enum-told-2 c = search needs
 
 returns : tie.Need-returns
 unfolding sameOne
-returns c = rw (c .before .before .before .before .before .a .given .1, c .before .before .b .given .1) (search (differ, flags))
+returns c = rw (c .before .before .before .before .before .a .given .1, c .before .before .b .given .1) (search flags)
 
 returns-2 : tie.Need-returns-2
 unfolding sameOne
-returns-2 c = rw (c .before .before .before .before .before .a .given .1, c .before .before .b .given .1) (search (differ, flags))
+returns-2 c = rw (c .before .before .before .before .before .a .given .1, c .before .before .b .given .1) (search flags)
 
 returns-3 : tie.Need-returns-3
 unfolding sameOne

@@ -1,7 +1,7 @@
+use borrow.Author.Needs.{needs}
+use Rattle.whole.proofs.Flags.{flags}
 use Rattle.interval.proofs.PortedCalls.{least-four, greatest-four}
 use Rattle.interval.proofs.Calls.{made}
-use Rattle.whole.proofs.Flags.{flags}
-use borrow.Author.Needs.{needs}
 use Rattle.interval.proofs.ported.spread.Statement.{statement}
 use Rattle.interval.proofs.ported.spread.Tie as tie
 

@@ -1,5 +1,5 @@
-use Rattle.interval.proofs.PortedCalls.{sub-is, sub-refused}
 use borrow.Author.Needs.{needs}
+use Rattle.interval.proofs.PortedCalls.{sub-is, sub-refused}
 use Rattle.interval.proofs.ported.sub.Statement.{statement}
 use Rattle.interval.proofs.ported.sub.Tie as tie
 

@@ -1,8 +1,8 @@
+use borrow.Author.Needs.{needs}
+use Rattle.whole.proofs.Flags.{flags}
+use Rattle.interval.specs.Ported.{weakCmp}
 use Rattle.interval.proofs.PortedCalls.{same-called}
 use Rattle.interval.proofs.Calls.{asked}
-use Rattle.interval.specs.Ported.{weakCmp}
-use Rattle.whole.proofs.Flags.{flags}
-use borrow.Author.Needs.{needs}
 use Rattle.interval.proofs.ported.weak_cmp.Statement.{statement}
 use Rattle.interval.proofs.ported.weak_cmp.Tie as tie
 

@@ -1,8 +1,8 @@
+use borrow.Author.Needs.{needs}
+use Rattle.whole.proofs.Flags.{flags}
+use Rattle.interval.specs.Ported.{widen}
 use Rattle.interval.proofs.PortedCalls.{ends}
 use Rattle.interval.proofs.Calls.{asked, made}
-use Rattle.interval.specs.Ported.{widen}
-use Rattle.whole.proofs.Flags.{flags}
-use borrow.Author.Needs.{needs}
 use Rattle.interval.proofs.ported.widen.Statement.{statement}
 use Rattle.interval.proofs.ported.widen.Tie as tie
 

@@ -1,0 +1,4 @@
+pub mod Demand
+pub mod Fives
+pub mod Walk
+pub mod Answers

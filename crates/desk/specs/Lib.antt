@@ -1,0 +1,4 @@
+pub mod Check
+pub mod Promise
+pub mod Five
+pub mod Answer

@@ -1,0 +1,105 @@
+// The range that each operator shows.
+use crate::Operator;
+use interval::Interval;
+use interval::IntervalAnswer;
+use refusal::Refusal;
+ghost use mathlib.Core.Path.{_≡_};
+ghost use mir.Syntax.{w64};
+ghost use Rattle.interval.specs.Answer.{told};
+ghost use Rattle.interval.specs.Set.{_∈?_};
+ghost use Rattle.interval.specs.Mended.{join};
+ghost use Rattle.step.specs.Range.{fittingAll, dividedAll, logicalAll, chosenBy, rangeOp};
+ghost use Rattle.step.specs.Told.{rangeTold};
+
+// A range, or its refusal by 12, 13 or 14.
+pub enum RangeAnswer {
+    Shows(Interval),
+    Declines(Refusal),
+}
+
+// 13, where the mended operation doesn't fit.
+fn fitting(a: IntervalAnswer) -> RangeAnswer
+    ensures { λ r. ⌜ rangeTold r ≡ fittingAll (told a) ⌝ }
+{
+    match a {
+        IntervalAnswer::Is(v) => RangeAnswer::Shows(v),
+        IntervalAnswer::Refused(_) => RangeAnswer::Declines(Refusal::ResultTooWide),
+    }
+}
+
+// Whether the range holds n.
+fn holds(i: Interval, n: i64) -> bool
+    ensures { λ r. ⌜ r ≡ (n ∈? i) ⌝ }
+{
+    if i.min <= n { n <= i.max } else { false }
+}
+
+// 12 where the divisor's range holds 0, 13 where MIN and -1 can meet.
+fn divided(i: Interval, j: Interval, a: RangeAnswer) -> RangeAnswer
+    ensures { λ r. ⌜ rangeTold r ≡ dividedAll w64 i j (rangeTold a) ⌝ }
+{
+    if holds(j, 0) {
+        return RangeAnswer::Declines(Refusal::DivisorZero);
+    }
+    if holds(i, whole::MIN) {
+        if holds(j, -1) {
+            return RangeAnswer::Declines(Refusal::ResultTooWide);
+        }
+    }
+    a
+}
+
+// 14 where the operand's range isn't inside [0, 1].
+fn logical(i: Interval, a: RangeAnswer) -> RangeAnswer
+    ensures { λ r. ⌜ rangeTold r ≡ logicalAll i (rangeTold a) ⌝ }
+{
+    if 0 <= i.min {
+        if i.max <= 1 {
+            return a;
+        }
+    }
+    RangeAnswer::Declines(Refusal::NotLogical)
+}
+
+// The range of what is chosen by a condition.
+fn choice(i: Interval, j: Interval, k: Interval) -> Interval
+    ensures { λ r. ⌜ r ≡ chosenBy i j k (join j k) ⌝ }
+{
+    if i.is_only(1) {
+        return j;
+    }
+    if i.is_only(0) {
+        return k;
+    }
+    interval::ported::join(j, k)
+}
+
+// The range that the operator shows on operands of these ranges.
+pub fn range(operator: Operator, i: Interval, j: Interval, k: Interval) -> RangeAnswer
+    ensures { λ r. ⌜ rangeTold r ≡ rangeOp w64 operator i j k ⌝ }
+{
+    match operator {
+        Operator::Constant(n) => RangeAnswer::Shows(Interval { min: n, max: n }),
+        Operator::Add => fitting(interval::mended::add(i, j)),
+        Operator::Sub => fitting(interval::mended::sub(i, j)),
+        Operator::Mul => fitting(interval::mended::mul(i, j)),
+        Operator::Div => divided(i, j, fitting(interval::mended::div(i, j))),
+        Operator::Rem => divided(i, j, fitting(interval::mended::rem(i, j))),
+        Operator::Equals => fitting(interval::mended::equals(i, j)),
+        Operator::And => logical(
+            i,
+            logical(j, RangeAnswer::Shows(interval::ported::logical_and(i, j))),
+        ),
+        Operator::Or => logical(
+            i,
+            logical(j, RangeAnswer::Shows(interval::ported::logical_or(i, j))),
+        ),
+        Operator::Less => fitting(interval::mended::less(i, j)),
+        Operator::Greater => fitting(interval::mended::greater(i, j)),
+        Operator::LessOrEqual => fitting(interval::mended::less_or_equal(i, j)),
+        Operator::GreaterOrEqual => fitting(interval::mended::greater_or_equal(i, j)),
+        Operator::Not => logical(i, RangeAnswer::Shows(interval::ported::logical_not(i))),
+        Operator::Same => RangeAnswer::Shows(i),
+        Operator::Choose => logical(i, RangeAnswer::Shows(choice(i, j, k))),
+    }
+}

@@ -1,0 +1,4 @@
+pub mod Keys
+pub mod Numbered
+pub mod Owned
+pub mod Claims

@@ -1,0 +1,4 @@
+pub mod Operator
+pub mod Ranges
+pub mod Spacings
+pub mod Refuses

@@ -1,0 +1,22 @@
+-- The number by which an answer is refused, 0 if it isn't; and what it says that this is 1, or 4, exactly if a test says so.
+use mathlib.Core.Path.{_≡_}
+use mathlib.Core.Bool.{Bool}
+use Prim.Native.Nat.{ℕ}
+use lib.Dec.{eqb}
+use Rattle.refusal.specs.Number.{numberOf}
+use Rattle.interval.specs.declared.Interval.{Interval}
+use Rattle.interval.specs.Answer.{Answer, is, refused}
+use Rattle.congruence.specs.declared.CongruenceAnswer.{CongruenceAnswer}
+use Rattle.congruence.specs.declared.CongruenceAnswer.the-variants.{Is, Refused}
+
+abbrev pub rangeNumber : Answer Interval → ℕ
+rangeNumber (is v) = 0
+rangeNumber (refused n) = n
+
+abbrev pub spacingNumber : CongruenceAnswer → ℕ
+spacingNumber (Is v) = 0
+spacingNumber (Refused r) = numberOf r
+
+pub record Refuses (n : ℕ) (one four : Bool) : Type 0 where
+  pub by-1 : eqb n 1 ≡ one
+  pub by-4 : eqb n 4 ≡ four
