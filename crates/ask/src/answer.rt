@@ -1,6 +1,11 @@
 // Answers of every family, and their texts.
 ghost use Rattle.ask.specs.Said.{Says};
 ghost use Rattle.ask.specs.Answer.{answerSaid};
+use congruence::Congruence;
+use congruence::CongruenceAnswer;
+use congruence::OrderAnswer;
+use congruence::SingleAnswer;
+use congruence::TruthAnswer;
 use interval::Interval;
 use interval::IntervalAnswer;
 use interval::Pair;
@@ -15,7 +20,9 @@ pub enum Answer {
     Sign(Sign),
     Range(Interval),
     Ranges(Pair),
+    Spacing(Congruence),
     Order(Order),
+    Truth(bool),
     Number(i64),
     NoNumber,
     Refused(Refusal),
@@ -30,7 +37,9 @@ pub fn say(out: &mut [u8], made: usize, a: Answer) -> usize
         Answer::Sign(s) => crate::say::sign(out, made, s),
         Answer::Range(i) => crate::say::interval(out, made, i),
         Answer::Ranges(p) => crate::say::intervals(out, made, p),
+        Answer::Spacing(c) => crate::say::congruence(out, made, c),
         Answer::Order(o) => crate::say::order(out, made, o),
+        Answer::Truth(t) => crate::say::truth(out, made, t),
         Answer::Number(n) => crate::say::number(out, made, n),
         Answer::NoNumber => crate::say::none(out, made),
         Answer::Refused(r) => crate::say::refused(out, made, r),
@@ -63,5 +72,34 @@ pub fn single_told(a: Single) -> Answer {
     match a {
         Single::One(n) => Answer::Number(n),
         Single::None => Answer::NoNumber,
+    }
+}
+
+pub fn spacing_told(a: CongruenceAnswer) -> Answer {
+    match a {
+        CongruenceAnswer::Is(c) => Answer::Spacing(c),
+        CongruenceAnswer::Refused(r) => Answer::Refused(r),
+    }
+}
+
+pub fn truth_told(a: TruthAnswer) -> Answer {
+    match a {
+        TruthAnswer::Is(t) => Answer::Truth(t),
+        TruthAnswer::Refused(r) => Answer::Refused(r),
+    }
+}
+
+pub fn order_told(a: OrderAnswer) -> Answer {
+    match a {
+        OrderAnswer::Is(o) => Answer::Order(o),
+        OrderAnswer::Refused(r) => Answer::Refused(r),
+    }
+}
+
+pub fn spacing_single(a: SingleAnswer) -> Answer {
+    match a {
+        SingleAnswer::Is(n) => Answer::Number(n),
+        SingleAnswer::None => Answer::NoNumber,
+        SingleAnswer::Refused(r) => Answer::Refused(r),
     }
 }

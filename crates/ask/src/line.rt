@@ -6,6 +6,8 @@ use text::word;
 const LONGEST: usize = 32768;
 
 // The families' names, as word::word_at has them.
+const CONGRUEN: u64 = 0x636f6e677275656e;
+
 const INTERVAL: u64 = 0x696e74657276616c;
 
 const MENDED: u64 = 0x6d656e646564;
@@ -18,6 +20,8 @@ const SIGN: u64 = 0x7369676e;
 
 // A name of at most eight bytes has no second number.
 const SHORT: u64 = 0;
+
+const CE: u64 = 0x6365;
 
 // The answer to a question. A family is added here.
 fn say(line: &[u8], out: &mut [u8], made: usize) -> usize {
@@ -32,6 +36,10 @@ fn say(line: &[u8], out: &mut [u8], made: usize) -> usize {
             SIGN => answer::say(out, made, crate::signs::answer(line, at)),
             INTERVAL => answer::say(out, made, crate::intervals::answer(line, at)),
             MENDED => answer::say(out, made, crate::mended::answer(line, at)),
+            _ => crate::say::not_understood(out, made),
+        },
+        CE => match first {
+            CONGRUEN => answer::say(out, made, crate::congruences::answer(line, at)),
             _ => crate::say::not_understood(out, made),
         },
         _ => crate::say::not_understood(out, made),

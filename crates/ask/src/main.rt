@@ -1,5 +1,6 @@
 // Answers the questions on standard input, a line each: the name of a family and of an operation, and its operands.
 mod answer;
+mod congruences;
 mod intervals;
 mod line;
 mod mended;

@@ -1,12 +1,14 @@
-// The names of operations, by the two numbers that text::word has for each; tools/codes prints them.
+// The names of operations and domains, by the two numbers that text::word has for each; tools/codes prints them.
 use text::word::Word;
 
 // The operations of all families, by the Rust's names.
 pub enum Op {
     Add,
     Bottom,
+    Disjoint,
     Div,
     Equals,
+    From,
     Greater,
     GreaterOrEqual,
     Join,
@@ -38,13 +40,20 @@ pub enum Op {
     Unknown,
 }
 
+// A name of at most eight bytes has no second number.
+const SHORT: u64 = 0;
+
 const ADD: u64 = 0x616464;
 
 const BOTTOM: u64 = 0x626f74746f6d;
 
+const DISJOINT: u64 = 0x6469736a6f696e74;
+
 const DIV: u64 = 0x646976;
 
 const EQUALS: u64 = 0x657175616c73;
+
+const FROM: u64 = 0x66726f6d;
 
 const GREATER: u64 = 0x67726561746572;
 
@@ -79,8 +88,10 @@ fn short(first: u64) -> Op {
     match first {
         ADD => Op::Add,
         BOTTOM => Op::Bottom,
+        DISJOINT => Op::Disjoint,
         DIV => Op::Div,
         EQUALS => Op::Equals,
+        FROM => Op::From,
         GREATER => Op::Greater,
         JOIN => Op::Join,
         LESS => Op::Less,
@@ -193,9 +204,41 @@ fn long(first: u64, second: u64) -> Op {
 pub fn named(w: Word) -> Op {
     let first = w.first;
     let second = w.second;
-    if second == 0 {
-        short(first)
-    } else {
-        long(first, second)
+    match second {
+        SHORT => short(first),
+        _ => long(first, second),
+    }
+}
+
+pub enum Domain {
+    Congruence,
+    Interval,
+    Sign,
+    Unknown,
+}
+
+const INTERVAL: u64 = 0x696e74657276616c;
+
+const SIGN: u64 = 0x7369676e;
+
+const CONGRUEN: u64 = 0x636f6e677275656e;
+
+const CE: u64 = 0x6365;
+
+// The domain that a word names.
+pub fn of_domain(w: Word) -> Domain {
+    let first = w.first;
+    let second = w.second;
+    match second {
+        SHORT => match first {
+            INTERVAL => Domain::Interval,
+            SIGN => Domain::Sign,
+            _ => Domain::Unknown,
+        },
+        CE => match first {
+            CONGRUEN => Domain::Congruence,
+            _ => Domain::Unknown,
+        },
+        _ => Domain::Unknown,
     }
 }

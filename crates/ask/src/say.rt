@@ -12,6 +12,7 @@ ghost use Rattle.ask.specs.Sheets.{spaced};
 ghost use Rattle.ask.specs.Ranges.{rangeText, pairText};
 ghost use Rattle.ask.specs.Said.{placeOf, Says};
 ghost use Rattle.ask.specs.Number.{notUnderstood};
+use congruence::Congruence;
 use interval::Interval;
 use interval::Pair;
 use refusal::Refusal;
@@ -120,9 +121,11 @@ pub fn intervals(out: &mut [u8], made: usize, p: Pair) -> usize
     interval(out, b, p.right)
 }
 
-pub fn spacing(out: &mut [u8], made: usize, constant: i64, modulus: i64) -> usize
-    ensures { λ r. ⌜ Says (decimal constant ∷ (ascii " mod " ∷ (decimal modulus ∷ []))) (now (out .entry)) made (now (out .exit)) r ⌝ }
+pub fn congruence(out: &mut [u8], made: usize, c: Congruence) -> usize
+    ensures { λ r. ⌜ Says (decimal (c .constant) ∷ (ascii " mod " ∷ (decimal (c .modulus) ∷ []))) (now (out .entry)) made (now (out .exit)) r ⌝ }
 {
+    let constant = c.constant;
+    let modulus = c.modulus;
     let a = number(out, made, constant);
     let b = word(out, a, b" mod ");
     number(out, b, modulus)
