@@ -27,7 +27,7 @@ binary-within-requires c κs = search needs
 
 returns-3 : tie.Need-returns-3
 unfolding within2
-returns-3 c = let s = c .before .before .before .before .before in let e : domain? (s .args .a) ≡ true = was-true (c .before .before .before .before .in-domain .ensures) (c .before .before .before .if1 .left) in let f : domain? (s .args .b) ≡ true = was-true (c .before .before .in-domain2 .ensures) (c .before .if2 .left) in rw (e, f) (cc (toZ-ofZ (s .fits .op)))
+returns-3 c = let s = c .before .before .before .before .before in let e : domain? (s .args .a) ≡ true = was-true (c .before .before .before .before .in-domain .ensures) (c .before .before .before .if1 .left) in let f : domain? (s .args .b) ≡ true = was-true (c .before .before .in-domain2 .ensures) (c .before .if2 .left) in rw (e, f) (simp (toZ-ofZ (s .fits .op)) at (c .binary-within .ensures))
 
 pub congruence-binary-spec : {M : Type 1} → statement M
 congruence-binary-spec =

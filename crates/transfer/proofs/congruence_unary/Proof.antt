@@ -15,7 +15,7 @@ unary-within-requires c κs = search needs
 
 returns : tie.Need-returns
 unfolding within
-returns c = let e : domain? (c .before .before .before .args .a) ≡ true = sym (c .before .before .in-domain .ensures) ∙ c .before .if1 .taken in rw e (cc (toZ-ofZ (c .before .before .before .fits .op)))
+returns c = let e : domain? (c .before .before .before .args .a) ≡ true = sym (c .before .before .in-domain .ensures) ∙ c .before .if1 .taken in rw e (simp (toZ-ofZ (c .before .before .before .fits .op)) at (c .unary-within .ensures))
 
 returns-2 : tie.Need-returns-2
 unfolding within

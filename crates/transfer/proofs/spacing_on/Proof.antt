@@ -1,3 +1,5 @@
+use mathlib.Core.Path.{ap}
+use Rattle.congruence.specs.declared.CongruenceAnswer.the-variants.{Is}
 use Rattle.transfer.specs.Spacings.{spacingOn}
 use borrow.Author.Needs.{needs}
 use Rattle.transfer.proofs.spacing_on.Statement.{statement}
@@ -14,11 +16,11 @@ enum-known-order-2 c = search needs
 
 returns : tie.Need-returns
 unfolding spacingOn
-returns c = rw (c .before .before .order .given .1) (cc)
+returns c = rw (c .before .before .order .given .1) (ap Is (c .spacing-by .ensures))
 
 returns-2 : tie.Need-returns-2
 unfolding spacingOn
-returns-2 c = rw (c .before .order2 .given .1) (cc)
+returns-2 c = rw (c .before .order2 .given .1)
 
 pub spacing-on-spec : {M : Type 1} → statement M
 spacing-on-spec =

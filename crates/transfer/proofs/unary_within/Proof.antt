@@ -1,9 +1,8 @@
-use mir.Facts.{toZ-ofZ}
-use mathlib.Core.Path.{_≡_}
-use Rattle.whole.specs.Whole.{up}
+use mathlib.Core.Path.{refl, ap}
 use Rattle.whole.specs.Test.{_≟_}
+use Rattle.congruence.specs.declared.CongruenceAnswer.the-variants.{Refused}
 use Rattle.transfer.specs.Spacings.{unaryWithin}
-use Rattle.transfer.proofs.Keys.{key, passed}
+use Rattle.transfer.proofs.Keys.{key, passed, other-called}
 use borrow.Author.Needs.{needs}
 use Rattle.transfer.proofs.unary_within.Statement.{statement}
 use Rattle.transfer.proofs.unary_within.Tie as tie
@@ -19,15 +18,23 @@ other-requires c κs = search needs
 
 returns : tie.Need-returns
 unfolding unaryWithin _≟_
-returns c = let s = c .before .before .before in let e : up (s .args .op) ≡ 14 = cc (toZ-ofZ (s .fits .op)) in rw (key (s .args .op) 13 e) cc
+returns c =
+    let s = c .before .before .before in
+    rw (key (s .args .op) _ (c .before .before .natural .ensures) (s .fits .op) 13 (c .before .match .keys1)) (c .logical-not .ensures)
 
 returns-2 : tie.Need-returns-2
 unfolding unaryWithin _≟_
-returns-2 c = let s = c .before .before in let e : up (s .args .op) ≡ 15 = cc (toZ-ofZ (s .fits .op)) in rw (key (s .args .op) 14 e) cc
+returns-2 c =
+    let s = c .before .before in
+    rw (key (s .args .op) _ (c .before .natural .ensures) (s .fits .op) 14 (c .match .keys2)) (refl)
 
 returns-3 : tie.Need-returns-3
 unfolding unaryWithin
-returns-3 c = let s = c .before .before .before in let op = s .args .op in let r = c .before .before .natural in let n = r .result in let h : n ≡ up op = cc (toZ-ofZ (s .fits .op)) in let m = c .before .match .rest in rw (passed op 14 n h (m .0 .1), passed op 15 n h (m .1)) (cc (toZ-ofZ (s .fits .op)))
+returns-3 c =
+    let s = c .before .before .before in
+    let f = passed (s .args .op) _ (c .before .before .natural .ensures) (s .fits .op) in
+    let m = c .before .match .rest in
+    rw (f 14 (m .0 .1), f 15 (m .1)) (ap Refused (other-called (s .args .op) _ (c .other .ensures) (s .fits .op)))
 
 pub unary-within-spec : {M : Type 1} → statement M
 unary-within-spec =
