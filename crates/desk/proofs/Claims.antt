@@ -1,4 +1,4 @@
--- Demand 3 for the sheets that are read and the panel of 64 bits; what is answered is determined; and the fourteen numbers.
+-- Demand 3 for the sheets that are read and the panel of 64 bits; and what is answered is determined.
 use mathlib.Core.Path.{_≡_, refl, sym, ap, _∙_, subst}
 use mathlib.Core.Logic.{_≢_}
 use mathlib.Core.Bool.{Bool, true, false, _&&_}

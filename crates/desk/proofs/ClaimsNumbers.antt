@@ -1,4 +1,4 @@
--- The fourteen numbers of document 01, about the definitions themselves: (1) to (13) from their crates, and (14), whose sheet passes.
+-- Number (14) of the fourteen: a sheet that passes, and what is shown of it.
 use mathlib.Core.Path.{_≡_, refl, ap, _∙_}
 use mathlib.Core.List.{List, [], _∷_}
 use lib.IntN.{ℤ, pos, negsuc}
@@ -11,15 +11,12 @@ use Rattle.whole.specs.Divides.{steps, gcd, floorRem}
 use Rattle.interval.specs.Set.{_⋯_, single}
 use Rattle.interval.specs.Mended as range
 use Rattle.interval.specs.Ported.{signOf, sideSign}
-use Rattle.interval.proofs.ClaimsNumbers as interval
 use Rattle.congruence.specs.Set.{cong, top, bottom?, domain?, form}
 use Rattle.congruence.specs.Answer.{within2}
 use Rattle.congruence.specs.Numbers.{formula, gcdThen}
 use Rattle.congruence.specs.Mended as spacing
-use Rattle.congruence.proofs.Claims as congruence
 use Rattle.sign.specs.declared.Sign.the-variants.{Positive}
 use Rattle.sign.specs.Ported as sign
-use Rattle.sign.proofs.Claims as signs
 use Rattle.sheet.specs.Step.{Step, step}
 use Rattle.step.specs.Kind.{operatorOf, actionOf}
 use Rattle.step.specs.Range.{rangeOp}
