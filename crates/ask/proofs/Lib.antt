@@ -1,4 +1,5 @@
 pub mod Saying
+pub mod Running
 pub mod Sheeting
 pub mod Spaced
 pub mod Taking

@@ -4,13 +4,17 @@ use mathlib.Core.List.{List, [], _∷_}
 use lib.Dec.{leb}
 use lib.IntN.{ℤ}
 use lib.ListN.{length}
+use mir.Syntax.{w64}
 use Rattle.whole.specs.Choice.{pick}
+use Rattle.refusal.specs.Number.{numberOf}
 use Rattle.text.specs.Ascii.{ascii}
 use Rattle.text.specs.Decimal.{decimal, digits}
 use Rattle.text.specs.Hex.{hexText}
 use Rattle.sheet.specs.Got.{Got, got, refused}
 use Rattle.sheet.specs.Step.{Step}
 use Rattle.sheet.specs.Sheet.{flat}
+use Rattle.step.specs.Run.{runOp}
+use Rattle.panel.specs.Run.{Run, ended, stoppedAt, actionsOf, suits?, runSheet}
 use Rattle.sheet.specs.Answer.{Told, done, refusedAt, refusedBy, Plan, fill, stop}
 
 unfoldable pub spaced : List ℤ → List (List ℕ)
@@ -30,3 +34,12 @@ readSaid (refused r p) = refusedText (refusedAt r p)
 abbrev pub writeSaid : Plan ℕ → List (List ℕ)
 writeSaid (fill n bs) = pick (leb (length bs) 5378) (ascii "written " ∷ (hexText bs ∷ [])) (refusedText (refusedBy 16))
 writeSaid (stop t) = refusedText t
+
+-- a run's numbers: those of all steps, or those before the one that stops
+abbrev pub ranSaid : Run → List (List ℕ)
+ranSaid (ended ns) = ascii "ended" ∷ spaced ns
+ranSaid (stoppedAt ns r) = ascii "stopped at " ∷ (digits (length ns) ∷ (ascii " by " ∷ (digits (numberOf r) ∷ spaced ns)))
+
+abbrev pub runSaid : Got (List Step) → List ℤ → List (List ℕ)
+runSaid (got xs end) ins = pick (suits? (actionsOf xs) ins) (ranSaid (runSheet (runOp w64) ins xs)) (refusedText (refusedBy 15))
+runSaid (refused r p) ins = refusedText (refusedAt r p)

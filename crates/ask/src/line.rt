@@ -18,6 +18,8 @@ const SHEET: u64 = 0x7368656574;
 
 const SIGN: u64 = 0x7369676e;
 
+const TRANSFER: u64 = 0x7472616e73666572;
+
 // A name of at most eight bytes has no second number.
 const SHORT: u64 = 0;
 
@@ -35,6 +37,7 @@ fn say(line: &[u8], out: &mut [u8], made: usize) -> usize {
             SHEET => crate::sheets::say(line, at, out, made),
             SIGN => answer::say(out, made, crate::signs::answer(line, at)),
             INTERVAL => answer::say(out, made, crate::intervals::answer(line, at)),
+            TRANSFER => answer::say(out, made, crate::transfers::answer(line, at)),
             MENDED => answer::say(out, made, crate::mended::answer(line, at)),
             _ => crate::say::not_understood(out, made),
         },

@@ -10,6 +10,7 @@ mod say;
 mod sheets;
 mod signs;
 mod take;
+mod transfers;
 
 ghost use mathlib.Core.Path.{_≡_};
 ghost use Prim.Native.Nat.{_-_, _≤_};

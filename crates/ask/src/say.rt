@@ -81,13 +81,27 @@ pub fn refused(out: &mut [u8], made: usize, why: Refusal) -> usize
     natural(out, e, why.number() as u64)
 }
 
+// A place and a refusal's number.
+fn place_by(out: &mut [u8], made: usize, place: usize, why: Refusal) -> usize
+    ensures { λ r. ⌜ Says (digits place ∷ (ascii " by " ∷ (digits (numberOf why) ∷ []))) (now (out .entry)) made (now (out .exit)) r ⌝ }
+{
+    let p = natural(out, made, place as u64);
+    let q = word(out, p, b" by ");
+    natural(out, q, why.number() as u64)
+}
+
 pub fn refused_at(out: &mut [u8], made: usize, place: usize, why: Refusal) -> usize
     ensures { λ r. ⌜ Says (ascii "refused at " ∷ (digits place ∷ (ascii " by " ∷ (digits (numberOf why) ∷ [])))) (now (out .entry)) made (now (out .exit)) r ⌝ }
 {
     let e = word(out, made, b"refused at ");
-    let p = natural(out, e, place as u64);
-    let q = word(out, p, b" by ");
-    natural(out, q, why.number() as u64)
+    place_by(out, e, place, why)
+}
+
+pub fn stopped_at(out: &mut [u8], made: usize, step: usize, why: Refusal) -> usize
+    ensures { λ r. ⌜ Says (ascii "stopped at " ∷ (digits step ∷ (ascii " by " ∷ (digits (numberOf why) ∷ [])))) (now (out .entry)) made (now (out .exit)) r ⌝ }
+{
+    let e = word(out, made, b"stopped at ");
+    place_by(out, e, step, why)
 }
 
 fn range_end(out: &mut [u8], made: usize, n: i64) -> usize

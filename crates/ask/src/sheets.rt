@@ -2,14 +2,17 @@
 ghost use Rattle.sheet.specs.Sheet.{parse};
 ghost use Rattle.sheet.specs.Answer.{writing};
 ghost use Rattle.ask.specs.Said.{Says};
-ghost use Rattle.ask.specs.Sheets.{readSaid, writeSaid};
+ghost use Rattle.ask.specs.Sheets.{readSaid, writeSaid, runSaid};
 use crate::take::HexBytes;
 use crate::take::Many;
+use panel::RunAnswer;
 use sheet::ReadAnswer;
 use sheet::WriteAnswer;
 
 // The operations' names, as text::word has them.
 const READ: u64 = 0x72656164;
+
+const RUN: u64 = 0x72756e;
 
 const WRITE: u64 = 0x7772697465;
 
@@ -69,6 +72,41 @@ fn write(line: &[u8], at: usize, out: &mut [u8], made: usize) -> usize {
     }
 }
 
+// What running the sheet on its inputs answers: 256 numbers are room for any run.
+fn run_inputs(bytes: &[u8], inputs: &[i64], out: &mut [u8], made: usize) -> usize
+    ensures { λ r. ⌜ Says (runSaid (parse (now (bytes .entry))) (now (inputs .entry))) (now (out .entry)) made (now (out .exit)) r ⌝ }
+{
+    let mut room = [0i64; 256];
+    match panel::run(bytes, inputs, &mut room) {
+        RunAnswer::Ended(n) => {
+            let e = crate::say::word(out, made, b"ended");
+            crate::say::numbers(out, e, &room[0..n])
+        }
+        RunAnswer::StoppedAt(why, step) => {
+            let e = crate::say::stopped_at(out, made, step, why);
+            crate::say::numbers(out, e, &room[0..step])
+        }
+        RunAnswer::RefusedAt(why, place) => crate::say::refused_at(out, made, place, why),
+        RunAnswer::Refused(why) => crate::say::refused(out, made, why),
+    }
+}
+
+fn run_bytes(bytes: &[u8], line: &[u8], at: usize, out: &mut [u8], made: usize) -> usize {
+    let mut room = [0i64; 16384];
+    match crate::take::numbers(line, at, &mut room) {
+        Many::Are(n) => run_inputs(bytes, &room[0..n], out, made),
+        Many::Not => crate::say::not_understood(out, made),
+    }
+}
+
+fn run(line: &[u8], at: usize, out: &mut [u8], made: usize) -> usize {
+    let mut room = [0u8; 16384];
+    match crate::take::bytes(line, at, &mut room) {
+        HexBytes::Are(n, next) => run_bytes(&room[0..n], line, next, out, made),
+        HexBytes::Not => crate::say::not_understood(out, made),
+    }
+}
+
 // The answer to what stands after the family's name.
 pub fn say(line: &[u8], at: usize, out: &mut [u8], made: usize) -> usize {
     let op = crate::take::name(line, at);
@@ -78,6 +116,7 @@ pub fn say(line: &[u8], at: usize, out: &mut [u8], made: usize) -> usize {
     match second {
         SHORT => match first {
             READ => read(line, next, out, made),
+            RUN => run(line, next, out, made),
             WRITE => write(line, next, out, made),
             _ => crate::say::not_understood(out, made),
         },
