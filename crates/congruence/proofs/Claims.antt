@@ -1,5 +1,5 @@
 -- What document 01 says of congruences: the canonical form; mended lattice, arithmetic and comparisons at any width; the ported operations
--- that cover; errors 5, 6 and 8 with inputs; numbers (8) to (12).
+-- that cover; errors 5, 6 and 8 with inputs.
 use mathlib.Core.Path.{_≡_, refl, ap, _∙_, subst}
 use mathlib.Core.Bool.{Bool, true, false, not, _&&_, _||_}
 use mathlib.Core.Logic.{_≢_, _↔_, _⊎_, inl, inr}
@@ -243,18 +243,3 @@ pub error-8 : (ported.widen (cong (pos 1) (pos 0)) (cong (pos 0) (pos 0)) ≡ Is
     × (pos 0 ∈ cong (pos 0) (pos 0)) × (pos 0 ∈ cong (pos 1) (pos 0) → ⊥)
 unfolding within2 domain? bottom? _≟_ _<?_ mended.has? alike?
 error-8 = (refl, sets.alone-in (pos 0), no (lattice.has-test (cong (pos 1) (pos 0)) (pos 0) refl) refl)
-
--- ---- the fourteen numbers, (8) to (12): ported, then mended
-
-pub numbers : (ported.meet (cong (pos 1) (pos 2)) (cong (pos 2) (pos 3)) ≡ Is (cong (pos 1) (pos 6)))
-    × (mended.meet w64 (cong (pos 1) (pos 2)) (cong (pos 2) (pos 3)) ≡ Is (cong (pos 5) (pos 6)))
-    × (ported.disjoint (cong (negsuc 0) (pos 0)) (cong (pos 2) (pos 3)) ≡ truths.Is true)
-    × (mended.disjoint (cong (negsuc 0) (pos 0)) (cong (pos 2) (pos 3)) ≡ truths.Is false)
-    × (ported.join (cong (pos 4) (pos 0)) (cong (pos 10) (pos 0)) ≡ Is (cong (pos 4) (pos 6)))
-    × (mended.join w64 (cong (pos 4) (pos 0)) (cong (pos 10) (pos 0)) ≡ Is (cong (pos 4) (pos 6)))
-    × (ported.neg (cong (pos 1) (pos 3)) ≡ Is (cong (negsuc 0) (pos 3)))
-    × (mended.neg w64 (cong (pos 1) (pos 3)) ≡ Is (cong (pos 2) (pos 3)))
-    × (congruenceOf (ported.div (cong (pos 0) (pos 6)) (cong (negsuc 1) (pos 0))) .number ≡ 3)
-    × (mended.div w64 (cong (pos 0) (pos 6)) (cong (negsuc 1) (pos 0)) ≡ Is (cong (pos 0) (pos 3)))
-unfolding within within2 domain? bottom? form floorRem _≟_ _<?_ _≤?_ ported.met ported.metClasses ported.onTruth ported.indivisible ported.reduced ported.normalize ported.separated ported.joined ported.made ported.negated ported.asserted ported.held ported.divided ported.dividedBy ported.only? absThen gcdThen exactly fits? gcd lcm steps mended.common mended.beside mended.overlap mended.found mended.has? alike? mended.apart? mended.joint mended.classOf mended.resultOf mended.negative mended.exactOf mended.quotient mended.byNumber divides?
-numbers = (refl, refl, refl, refl, refl, refl, refl, refl, refl, refl)

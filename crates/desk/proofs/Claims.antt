@@ -1,128 +1,48 @@
--- Demand 3 for the sheets that are read and the panel of 64 bits; and what is answered is determined.
+-- Demand 3 for the sheets that are read and the panel of 64 bits, and for the answers of `check` and `run`; what is answered is determined.
 use mathlib.Core.Path.{_≡_, refl, sym, ap, _∙_, subst}
 use mathlib.Core.Logic.{_≢_}
-use mathlib.Core.Bool.{Bool, true, false, _&&_}
-use mathlib.Core.List.{List, [], _∷_}
-use Prim.Native.Nat.{ℕ, zero, suc, _<_}
+use mathlib.Core.Bool.{Bool, true, false}
+use mathlib.Core.List.{List, [], _∷_, _++_}
+use Prim.Native.Nat.{ℕ, zero, suc, _+_, _*_, _≤_, _<_}
 use native.Mathlib.Omega.{arith}
-use lib.IntN.{ℤ, pos, negsuc}
-use lib.ListN.{length, getD, drop}
-use lib.Signed.{_≤ℤ_}
+use borrow.Author.Tests.{leb-true}
+use lib.Dec.{leb}
+use lib.IntN.{ℤ, pos}
+use lib.ListN.{length, getD, take, drop, length-append, List·getD-append}
+use lib.Seq.{sets, sets-eq, take-at}
 use mir.Syntax.{w64}
-use mir.Val.{SFits}
 use Rattle.refusal.specs.declared.Refusal.{Refusal}
 use Rattle.refusal.specs.Number.{numberOf}
-use Rattle.refusal.proofs.Claims.{number-tells}
+use Rattle.refusal.proofs.Claims.{withNumber, number-back, number-tells}
 use Rattle.whole.specs.Choice.{pick}
-use Rattle.whole.specs.Test.{_≟_, _≤?_}
-use Rattle.whole.specs.Whole.{up}
-use Rattle.whole.proofs.Linear.{ints}
-use Rattle.whole.proofs.Fits.{low, high, zero-fits}
-use Rattle.whole.proofs.Decides.{Decides, holds, fails, branch, eq-test, le-test, both, yes}
-use Rattle.interval.proofs.Rem.{proper}
 use Rattle.sheet.specs.Lent.{Bytes}
-use Rattle.sheet.specs.Got.{got}
-use Rattle.sheet.specs.Operator.{rows, fieldsOf}
+use Rattle.sheet.specs.Got.{Got, got, refused}
 use Rattle.sheet.specs.Step.{Step}
 use Rattle.sheet.specs.Sheet.{parse}
-use Rattle.sheet.specs.Valid.{Fit, constant, input, Valid, ValidFrom, ended, and, ValidSheet}
-use Rattle.sheet.specs.declared.operator.Fields.the-variants.{Constant as ConstantFields, Input as InputFields}
 use Rattle.sheet.proofs.Claims.{read-valid}
-use Rattle.step.specs.declared.Operator.{Operator}
-use Rattle.step.specs.declared.Operator.the-variants.{Constant, Add, Sub, Mul, Div, Rem, Equals, And, Or, Less, Greater, LessOrEqual, GreaterOrEqual, Not, Same, Choose}
-use Rattle.step.specs.declared.Action.{Action}
-use Rattle.step.specs.declared.Action.the-variants.{Input, Does}
-use Rattle.step.specs.Kind.{operators, operatorOf, actionOf}
-use Rattle.step.specs.Run.{runOp}
-use Rattle.step.specs.Valid.{ValidOperator}
-use Rattle.step.specs.Stopping.{stopping}
 use Rattle.step.specs.declared.show.Shown.{Shown}
-use Rattle.step.proofs.Lawful.{lawful}
-use Rattle.panel.specs.Run.{actionsOf, takes, inRange, nothingLeft, taken?, suits?, runSheet}
+use Rattle.step.specs.declared.Action.{Action}
+use Rattle.step.specs.Show.{zeroShown}
+use Rattle.step.specs.Run.{runOp}
+use Rattle.step.specs.Stopping.{InShown, stopping}
+use Rattle.step.proofs.Claims.{lawful}
+use Rattle.panel.specs.Run.{actionsOf, suits?, runSheet}
+use Rattle.panel.specs.Answer.{endedWith, runTold, Ran}
+use Rattle.panel.specs.declared.RunAnswer.{RunAnswer}
+use Rattle.panel.specs.declared.RunAnswer.the-variants.{Ended}
+use Rattle.panel.proofs.Claims.{run-told}
+use Rattle.panel.proofs.Answers.{runs-read, ran-suited}
 use Rattle.desk.specs.Check.{Check, passed, refusedAt, checkFrom, checkSheet}
-use Rattle.desk.specs.Promise.{ValidAction, AllValid, none, next, Takes, Suits, Ends, StopsAfter}
-use Rattle.desk.specs.Answer.{checkTold}
+use Rattle.desk.specs.Five.{flat, shownIn}
+use Rattle.desk.specs.Promise.{AllValid, Suits, Each, none, next, Ends, StopsAfter}
+use Rattle.desk.specs.Answer.{Told, passedWith, atStep, atByte, refusedBy, checkTold, Result, nothing, resultOf, checkedOn, checking, Checked}
+use Rattle.desk.specs.Kept.{InRanges, Reaches, StopsThere}
 use Rattle.desk.specs.declared.CheckAnswer.{CheckAnswer}
 use Rattle.desk.specs.declared.CheckAnswer.the-variants.{Passed, RefusedAtStep, RefusedAt, Refused}
-use Rattle.desk.proofs.Demand as Demand
-
--- ---- a sheet that was read is one that the panel takes
-
-operator-valid : (n : ℕ) → ValidOperator w64 (operatorOf n)
-unfolding operatorOf
-operator-valid zero = tt
-operator-valid (suc zero) = tt
-operator-valid (suc (suc zero)) = tt
-operator-valid (suc (suc (suc zero))) = tt
-operator-valid (suc (suc (suc (suc zero)))) = tt
-operator-valid (suc (suc (suc (suc (suc zero))))) = tt
-operator-valid (suc (suc (suc (suc (suc (suc zero)))))) = tt
-operator-valid (suc (suc (suc (suc (suc (suc (suc zero))))))) = tt
-operator-valid (suc (suc (suc (suc (suc (suc (suc (suc zero)))))))) = tt
-operator-valid (suc (suc (suc (suc (suc (suc (suc (suc (suc zero))))))))) = tt
-operator-valid (suc (suc (suc (suc (suc (suc (suc (suc (suc (suc zero)))))))))) = tt
-operator-valid (suc (suc (suc (suc (suc (suc (suc (suc (suc (suc (suc zero))))))))))) = tt
-operator-valid (suc (suc (suc (suc (suc (suc (suc (suc (suc (suc (suc (suc zero)))))))))))) = tt
-operator-valid (suc (suc (suc (suc (suc (suc (suc (suc (suc (suc (suc (suc (suc zero))))))))))))) = tt
-operator-valid (suc (suc (suc (suc (suc (suc (suc (suc (suc (suc (suc (suc (suc (suc zero)))))))))))))) = tt
-operator-valid (suc (suc (suc (suc (suc (suc (suc (suc (suc (suc (suc (suc (suc (suc (suc zero))))))))))))))) = tt
-operator-valid (suc (suc (suc (suc (suc (suc (suc (suc (suc (suc (suc (suc (suc (suc (suc (suc zero)))))))))))))))) = tt
-operator-valid (suc (suc (suc (suc (suc (suc (suc (suc (suc (suc (suc (suc (suc (suc (suc (suc (suc n))))))))))))))))) = record { low = omega ints; high = omega ints }
-
-constant-fits : {k : ℕ} {x y z : ℤ} → Fit k ConstantFields x y z → SFits w64 x
-constant-fits (constant f) = f
-
-input-fits : {k : ℕ} {x y z : ℤ} → Fit k InputFields x y z → (SFits w64 x) × (SFits w64 y) × (x ≤ℤ y)
-input-fits (input f g h) = (f, g, h)
-
-step-valid : {k : ℕ} {s : Step} → Valid k s → ValidAction (stopping w64) (actionOf (s .operator) (s .a) (s .b) (s .c))
-unfolding actionOf fieldsOf
-step-valid {s} v =
-    branch (eq-test (s .operator) (pos 0)) Fine constants others
-  where
-    Fine : Action → Type 0
-    Fine = ValidAction (stopping w64)
-
-    number : SFits w64 (s .a) → ValidOperator w64 (Constant (s .a))
-    number f = record { low = low w64 (s .a) f; high = high w64 (s .a) f }
-
-    ends : (SFits w64 (s .a)) × (SFits w64 (s .b)) × (s .a ≤ℤ s .b) → Fine (Input (s .a) (s .b))
-    ends (f, g, h) = proper h (low w64 (s .a) f) (high w64 (s .b) g)
-
-    constants : s .operator ≡ pos 0 → Fine (Does (Constant (s .a)) 0 0 0)
-    constants e = let z : v .number ≡ 0 = omega (ints, v .is) in number (constant-fits (rw z at (v .fit)))
-
-    inputs : s .operator ≡ pos 1 → Fine (Input (s .a) (s .b))
-    inputs e = let z : v .number ≡ 1 = omega (ints, v .is) in ends (input-fits (rw z at (v .fit)))
-
-    operated : s .operator ≢ pos 1 → Fine (Does (operatorOf (up (s .operator))) (up (s .a)) (up (s .b)) (up (s .c)))
-    operated n = operator-valid (up (s .operator))
-
-    others : s .operator ≢ pos 0 → Fine (pick (s .operator ≟ pos 1) (Input (s .a) (s .b)) (Does (operatorOf (up (s .operator))) (up (s .a)) (up (s .b)) (up (s .c))))
-    others n = branch (eq-test (s .operator) (pos 1)) Fine inputs operated
-
-all-valid : {k : ℕ} (xs : List Step) → ValidFrom k xs → AllValid (stopping w64) (actionsOf xs)
-unfolding actionsOf
-all-valid [] ended = none
-all-valid (x ∷ xs) (and v vs) = next (step-valid v) (all-valid xs vs)
-
--- ---- inputs that the run takes are as many as the sheet's, each in its range
-
-takes-means : (s : Action) (ins : List ℤ) → taken? s ins ≡ true → Takes s ins
-unfolding taken?
-takes-means (Input l h) [] e = let z : _≡_ {A = ℕ} 0 1 = cc in absurd (omega arith)
-takes-means (Input l h) (x ∷ ins) e = yes (both (le-test l x) (le-test x h)) e
-takes-means (Does o p q r) ins e = tt
-
-both-true : (a b : Bool) → (a && b) ≡ true → (a ≡ true) × (b ≡ true)
-both-true true b e = (refl, e)
-both-true false b e = let z : _≡_ {A = ℕ} 0 1 = cc in absurd (omega arith)
-
-pub suits-means : (ss : List Action) (ins : List ℤ) → suits? ss ins ≡ true → Suits ss ins
-unfolding suits?
-suits-means [] [] e = tt
-suits-means [] (x ∷ ins) e = let z : _≡_ {A = ℕ} 0 1 = cc in absurd (omega arith)
-suits-means (s ∷ ss) ins e = let t = both-true (taken? s ins) (suits? ss (drop (takes s) ins)) e in (takes-means s ins (t .0), suits-means ss (drop (takes s) ins) (t .1))
+use Rattle.desk.proofs.ClaimsDemand as Demand
+use Rattle.desk.proofs.Taken.{all-valid, suits-means, suits-tells}
+use Rattle.desk.proofs.Fives.{length-flat, found}
+use Rattle.desk.proofs.Answers.{checks-read, checks-refused}
 
 -- ---- demand 3
 
@@ -131,8 +51,8 @@ module _ (s : List ℕ) (bytes : Bytes s) (steps : List Step) (end : ℕ) (read 
   valid = all-valid steps (read-valid s bytes steps end read .steps)
 
   -- if the sheet passes, then for all inputs in their ranges the run reaches the last step and each number lies in what is shown
-  pub passed-sheet-runs : (vs : List Shown) → checkSheet (stopping w64) steps ≡ passed vs → (ins : List ℤ) → suits? (actionsOf steps) ins ≡ true → Ends (stopping w64) (runSheet (runOp w64) ins steps) vs
-  passed-sheet-runs vs c ins t = Demand.passed-runs (stopping w64) (lawful w64) (actionsOf steps) valid vs c ins (suits-means (actionsOf steps) ins t)
+  pub passed-sheet-runs : (vs : List Shown) → checkSheet (stopping w64) steps ≡ passed vs → (ins : List ℤ) → Suits (actionsOf steps) ins → Ends (stopping w64) (runSheet (runOp w64) ins steps) vs
+  passed-sheet-runs vs c ins t = Demand.passed-runs (stopping w64) (lawful w64) (actionsOf steps) valid vs c ins t
 
   -- if it is refused at a step, all earlier steps pass, and the operands' shown ranges hold numbers, each drawn from its own, on which that step stops for that reason
   pub refused-step-stops : (vs : List Shown) (r : Refusal) → checkSheet (stopping w64) steps ≡ refusedAt vs r → StopsAfter (stopping w64) (checkFrom (stopping w64) []) (actionsOf steps) vs r
@@ -140,20 +60,107 @@ module _ (s : List ℕ) (bytes : Bytes s) (steps : List Step) (end : ℕ) (read 
 
 -- ---- what is answered is determined
 
-pub check-determined : (r r′ : CheckAnswer) → checkTold r ≡ checkTold r′ → r ≡ r′
-check-determined (Passed n) (Passed n′) h = cc
-check-determined (Passed n) (RefusedAtStep r k) h = let z : _≡_ {A = ℕ} 0 1 = cc in absurd (omega arith)
-check-determined (Passed n) (RefusedAt r p) h = let z : _≡_ {A = ℕ} 0 1 = cc in absurd (omega arith)
-check-determined (Passed n) (Refused r) h = let z : _≡_ {A = ℕ} 0 1 = cc in absurd (omega arith)
-check-determined (RefusedAtStep r k) (Passed n) h = let z : _≡_ {A = ℕ} 0 1 = cc in absurd (omega arith)
-check-determined (RefusedAtStep r k) (RefusedAtStep r′ k′) h = let e : numberOf r ≡ numberOf r′ = cc in cc (number-tells r r′ e)
-check-determined (RefusedAtStep r k) (RefusedAt r′ p) h = let z : _≡_ {A = ℕ} 0 1 = cc in absurd (omega arith)
-check-determined (RefusedAtStep r k) (Refused r′) h = let z : _≡_ {A = ℕ} 0 1 = cc in absurd (omega arith)
-check-determined (RefusedAt r p) (Passed n) h = let z : _≡_ {A = ℕ} 0 1 = cc in absurd (omega arith)
-check-determined (RefusedAt r p) (RefusedAtStep r′ k) h = let z : _≡_ {A = ℕ} 0 1 = cc in absurd (omega arith)
-check-determined (RefusedAt r p) (RefusedAt r′ p′) h = let e : numberOf r ≡ numberOf r′ = cc in cc (number-tells r r′ e)
-check-determined (RefusedAt r p) (Refused r′) h = let z : _≡_ {A = ℕ} 0 1 = cc in absurd (omega arith)
-check-determined (Refused r) (Passed n) h = let z : _≡_ {A = ℕ} 0 1 = cc in absurd (omega arith)
-check-determined (Refused r) (RefusedAtStep r′ k) h = let z : _≡_ {A = ℕ} 0 1 = cc in absurd (omega arith)
-check-determined (Refused r) (RefusedAt r′ p) h = let z : _≡_ {A = ℕ} 0 1 = cc in absurd (omega arith)
-check-determined (Refused r) (Refused r′) h = let e : numberOf r ≡ numberOf r′ = cc in cc (number-tells r r′ e)
+-- the answer of what is told
+abbrev checkBack : Told → CheckAnswer
+checkBack (passedWith n) = Passed n
+checkBack (atStep k r) = RefusedAtStep (withNumber r) k
+checkBack (atByte r p) = RefusedAt (withNumber r) p
+checkBack (refusedBy r) = Refused (withNumber r)
+
+check-back : (r : CheckAnswer) → checkBack (checkTold r) ≡ r
+check-back (Passed n) = refl
+check-back (RefusedAtStep r k) = ap (λ q. RefusedAtStep q k) (number-back r)
+check-back (RefusedAt r p) = ap (λ q. RefusedAt q p) (number-back r)
+check-back (Refused r) = ap Refused (number-back r)
+
+-- any two answers that the promise of `check` admits are equal, and the rooms with them
+pub check-determined : (bytes : List ℕ) (room after after′ : List ℤ) (r r′ : CheckAnswer) → Checked bytes room after r → Checked bytes room after′ r′ → (r ≡ r′) × (after ≡ after′)
+check-determined bytes room after after′ r r′ h h′ = (sym (check-back r) ∙ ap checkBack (h .0 ∙ sym (h′ .0)) ∙ check-back r′, h .1 ∙ sym (h′ .1))
+
+-- ---- demand 3 for the answers of `check` and `run`
+
+as-many : (steps : List Step) → length (actionsOf steps) ≡ length steps
+unfolding actionsOf
+as-many [] = refl
+as-many (s ∷ ss) = ap suc (as-many ss)
+
+each-as-many : {ns : List ℤ} {vs : List Shown} → Each (stopping w64) ns vs → length ns ≡ length vs
+each-as-many none = refl
+each-as-many (next h e) = ap suc (each-as-many e)
+
+-- the check of a sheet that was read, if the room suffices
+record Walked (steps : List Step) (room after : List ℤ) (t : Told) : Type 0 where
+  check : Check Shown
+  is : checkSheet (stopping w64) steps ≡ check
+  tells : t ≡ resultOf check .told
+  stands : after ≡ sets room 0 (resultOf check .numbers)
+  enough : length steps * 5 ≤ length room
+
+module _ (steps : List Step) (room after : List ℤ) (t : Told) (other : t ≢ refusedBy 16) where
+  walked : (t ≡ checkedOn w64 steps room .told) × (after ≡ sets room 0 (checkedOn w64 steps room .numbers)) → Walked steps room after t
+  unfolding checkedOn
+  walked h = by-room (leb (length steps * 5) (length room)) refl h
+    where
+      Chosen : Bool → Result
+      Chosen b = pick b (resultOf (checkSheet (stopping w64) steps)) (nothing (refusedBy 16))
+
+      by-room : (b : Bool) → leb (length steps * 5) (length room) ≡ b → (t ≡ Chosen b .told) × (after ≡ sets room 0 (Chosen b .numbers)) → Walked steps room after t
+      by-room true e h = record { check = _; is = refl; tells = h .0; stands = h .1; enough = leb-true (length steps * 5) (length room) e }
+      by-room false e h = absurd (other (h .0))
+
+module _ (bytes : List ℕ) (lent : Bytes bytes) where
+  -- if `check` passes a sheet, then for all inputs in their ranges `run` ends, and each number in its room lies in what stands in the check's room
+  pub passed-code : (room shown : List ℤ) (n : ℕ) → Checked bytes room shown (Passed n) → (ins : List ℤ) → InRanges bytes ins → (room′ numbers : List ℤ) (r : RunAnswer) → n ≤ length room′ → Ran bytes ins room′ numbers r → Reaches n shown numbers r
+  passed-code room shown n h ins i room′ numbers r l g =
+      let k = walked (i .steps) room shown (passedWith n) (λ e. let z : _≡_ {A = ℕ} 0 1 = cc in omega arith) (rw (checks-read w64 bytes room (i .steps) (i .end) (i .read)) at h) in
+      by-check (k .check) (k .is) (k .tells) (k .stands) (k .enough)
+    where
+      by-check : (c : Check Shown) → checkSheet (stopping w64) (i .steps) ≡ c → passedWith n ≡ resultOf c .told → shown ≡ sets room 0 (resultOf c .numbers) → length (i .steps) * 5 ≤ length room → Reaches n shown numbers r
+      by-check (refusedAt vs q) c t s e = let z : _≡_ {A = ℕ} 0 1 = cc in absurd (omega arith)
+      by-check (passed vs) c t s e =
+          let d = passed-sheet-runs bytes lent (i .steps) (i .end) (i .read) vs c ins (i .suits) in
+          let m : n ≡ length vs = cc in
+          let y : length vs ≡ length (i .steps) = Demand.shows-each (stopping w64) (actionsOf (i .steps)) vs c ∙ as-many (i .steps) in
+          let x : length (d .numbers) ≡ length vs = each-as-many (d .each) in
+          let f : length (flat vs) ≤ length room = omega (arith, length-flat vs) in
+          let a : (runTold r ≡ endedWith (length (d .numbers))) × (numbers ≡ sets room′ 0 (d .numbers)) = rw (runs-read (runOp w64) bytes ins room′ (i .steps) (i .end) (i .read), ran-suited (runOp w64) (i .steps) ins room′ (omega arith) (suits-tells (actionsOf (i .steps)) ins (i .suits)), d .ends) at g in
+          record {
+            ends = run-told r (Ended n) (a .0 ∙ ap endedWith (x ∙ sym m));
+            lies = λ k j.
+                let p : shownIn shown k ≡ getD vs k zeroShown = ap (λ t. shownIn t k) (s ∙ sets-eq (flat vs) room 0 (omega arith)) ∙ found vs _ k (omega arith) in
+                let q : getD numbers k (pos 0) ≡ getD (d .numbers) k (pos 0) = ap (λ t. getD t k (pos 0)) (a .1 ∙ sets-eq (d .numbers) room′ 0 (omega arith)) ∙ List·getD-append (d .numbers) _ (pos 0) k (omega arith) in
+                rw (p, q) (Demand.look (stopping w64) (lawful w64) (d .each) k);
+          }
+
+  -- if `check` refuses a sheet at a step, the steps before it pass, with what stands in its room, and numbers of the operands' ranges stop that step
+  pub refused-code : (room shown : List ℤ) (r : Refusal) (k : ℕ) → Checked bytes room shown (RefusedAtStep r k) → StopsThere bytes shown r k
+  refused-code room shown r k h = by-parse (parse bytes) refl
+    where
+      by-check : (steps : List Step) (end : ℕ) → parse bytes ≡ got steps end → (c : Check Shown) → checkSheet (stopping w64) steps ≡ c → atStep k (numberOf r) ≡ resultOf c .told → shown ≡ sets room 0 (resultOf c .numbers) → length steps * 5 ≤ length room → StopsThere bytes shown r k
+      by-check steps end g (passed vs) c t s e = let z : _≡_ {A = ℕ} 0 1 = cc in absurd (omega arith)
+      by-check steps end g (refusedAt vs q) c t s e =
+          let n : numberOf q ≡ numberOf r = cc in
+          let m : length vs ≡ k = cc in
+          let d = refused-step-stops bytes lent steps end g vs r (c ∙ ap (refusedAt vs) (number-tells q r n)) in
+          let y : length vs ≡ length (d .before) = Demand.shows-each (stopping w64) (d .before) vs (d .earlier) in
+          let x : length steps ≡ length (d .before) + suc (length (d .after)) = sym (as-many steps) ∙ ap length (d .parts) ∙ length-append (d .before) (d .step ∷ d .after) in
+          let f : length (flat vs) ≤ length room = omega (arith, length-flat vs) in
+          let z : length (flat vs) ≡ k * 5 = omega (arith, length-flat vs) in
+          record {
+            steps = steps;
+            end = end;
+            read = g;
+            earlier = vs;
+            in-room = ap (λ t. take (k * 5) t) (s ∙ sets-eq (flat vs) room 0 (omega arith)) ∙ take-at (flat vs) _ (k * 5) z;
+            stops = d;
+            place = omega arith;
+          }
+
+      by-parse : (g : Got (List Step)) → parse bytes ≡ g → StopsThere bytes shown r k
+      by-parse (got steps end) g =
+          let w = walked steps room shown (atStep k (numberOf r)) (λ e. let z : _≡_ {A = ℕ} 0 1 = cc in omega arith) (rw (checks-read w64 bytes room steps end g) at h) in
+          by-check steps end g (w .check) (w .is) (w .tells) (w .stands) (w .enough)
+      by-parse (refused n p) g =
+          let w : atStep k (numberOf r) ≡ atByte n p = (rw (checks-refused w64 bytes room n p g) at h) .0 in
+          let z : _≡_ {A = ℕ} 0 1 = cc in
+          absurd (omega arith)

@@ -48,7 +48,7 @@ flat-more [] v = refl
 flat-more (u ∷ vs) v = ap (λ l. fiveOf u ++ l) (flat-more vs v)
 
 -- what stands at place p of steps that were put is what step p shows
-found : (vs : List Shown) (rest : List ℤ) (p : ℕ) → p < length vs → shownIn (flat vs ++ rest) p ≡ getD vs p zeroShown
+pub found : (vs : List Shown) (rest : List ℤ) (p : ℕ) → p < length vs → shownIn (flat vs ++ rest) p ≡ getD vs p zeroShown
 unfolding shownIn flat
 found [] rest p h = absurd (omega arith)
 found (v ∷ vs) rest zero h = rw (sign-back (v .sign)) refl

@@ -1,6 +1,7 @@
-pub mod Demand
+pub mod ClaimsDemand
 pub mod Fives
 pub mod Walk
 pub mod Answers
+pub mod Taken
 pub mod Claims
 pub mod ClaimsNumbers

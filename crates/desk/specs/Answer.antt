@@ -1,10 +1,12 @@
 -- What checking a sheet answers, by the numbers of document 01, and the numbers that it puts into the lent room.
+use mathlib.Core.Path.{_≡_}
 use mathlib.Core.List.{List, []}
 use Prim.Native.Nat.{ℕ, _*_}
 use lib.Dec.{leb}
 use lib.IntN.{ℤ}
 use lib.ListN.{length}
-use mir.Syntax.{Width}
+use lib.Seq.{sets}
+use mir.Syntax.{Width, w64}
 use Rattle.refusal.specs.Number.{numberOf}
 use Rattle.whole.specs.Choice.{pick}
 use Rattle.sheet.specs.Got.{Got, got, refused}
@@ -55,6 +57,10 @@ checkedOf w (refused n p) room = nothing (atByte n p)
 
 unfoldable pub checking : Width → List ℕ → List ℤ → Result
 checking w bytes room = checkedOf w (parse bytes) room
+
+-- what `check` promises of its answer, and of the room after it
+abbrev pub Checked : List ℕ → (room after : List ℤ) → CheckAnswer → Type 0
+Checked bytes room after r = (checkTold r ≡ checking w64 bytes room .told) × (after ≡ sets room 0 (checking w64 bytes room .numbers))
 
 -- what a step shows, its operands looked up among the first k of the room
 unfoldable pub stepIn : Width → List ℤ → ℕ → Action → Answered Shown

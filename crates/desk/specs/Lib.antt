@@ -2,3 +2,5 @@ pub mod Check
 pub mod Promise
 pub mod Five
 pub mod Answer
+pub mod Kept
+pub mod Fourteen

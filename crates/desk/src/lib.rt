@@ -21,7 +21,7 @@ ghost use Rattle.step.specs.Show.{shownTold};
 ghost use Rattle.step.specs.Stopping.{stopping};
 ghost use Rattle.desk.specs.Check.{checkSheet};
 ghost use Rattle.desk.specs.Five.{fiveOf, signAt, lookedUp};
-ghost use Rattle.desk.specs.Answer.{checkTold, checking, checkedOn, resultOf, stepIn, Result};
+ghost use Rattle.desk.specs.Answer.{checkTold, checkedOn, resultOf, stepIn, Result, Checked};
 
 // What checking a sheet answers.
 pub enum CheckAnswer {
@@ -130,15 +130,16 @@ fn put(room: &mut [i64], k: usize, v: Shown)
     requires { ⌜ (k < 256) × (k * 5 + 5 ≤ length (now room)) ⌝ }
     ensures { λ _. ⌜ now (room .exit) ≡ sets (now (room .entry)) (k * 5) (fiveOf v) ⌝ }
 {
-    let s = v.sign;
-    let number = number_of(s);
+    let range = v.range();
+    let spacing = v.spacing();
+    let number = number_of(v.sign());
     put_five(
         room,
         k,
-        v.range.min,
-        v.range.max,
-        v.spacing.constant,
-        v.spacing.modulus,
+        range.min,
+        range.max,
+        spacing.constant,
+        spacing.modulus,
         number,
     );
 }
@@ -186,7 +187,7 @@ fn check_listed(steps: &[i64], n: usize, room: &mut [i64]) -> CheckAnswer
 
 // Checks a sheet, and puts what each step shows into the lent room, five numbers a step.
 pub fn check(bytes: &[u8], room: &mut [i64]) -> CheckAnswer
-    ensures { λ r. ⌜ (checkTold r ≡ checking w64 (now (bytes .entry)) (now (room .entry)) .told) × (now (room .exit) ≡ sets (now (room .entry)) 0 (checking w64 (now (bytes .entry)) (now (room .entry)) .numbers)) ⌝ }
+    ensures { λ r. ⌜ Checked (now (bytes .entry)) (now (room .entry)) (now (room .exit)) r ⌝ }
 {
     let mut steps = [0i64; 1024];
     match sheet::read(bytes, &mut steps) {

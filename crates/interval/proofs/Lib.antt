@@ -16,4 +16,3 @@ pub mod ClaimsLattice
 pub mod ClaimsCompared
 pub mod ClaimsSign
 pub mod ClaimsPorted
-pub mod ClaimsNumbers

@@ -1,14 +1,18 @@
 -- What running a sheet answers, by the numbers of document 01, and the numbers that it puts into the lent room.
+use mathlib.Core.Path.{_≡_}
 use mathlib.Core.List.{List, []}
 use Prim.Native.Nat.{ℕ}
 use lib.Dec.{leb}
 use lib.IntN.{ℤ}
 use lib.ListN.{length}
+use lib.Seq.{sets}
+use mir.Syntax.{w64}
 use Rattle.refusal.specs.Number.{numberOf}
 use Rattle.whole.specs.Choice.{pick}
 use Rattle.sheet.specs.Got.{Got, got, refused}
 use Rattle.sheet.specs.Step.{Step}
 use Rattle.sheet.specs.Sheet.{parse}
+use Rattle.step.specs.Run.{runOp}
 use Rattle.panel.specs.Run.{Rules, actionsOf, Run, ended, stoppedAt, runSheet, suits?}
 use Rattle.panel.specs.declared.RunAnswer.{RunAnswer}
 use Rattle.panel.specs.declared.RunAnswer.the-variants.{Ended, StoppedAt, RefusedAt, Refused}
@@ -50,3 +54,7 @@ ranOf rules (refused n p) ins room = nothing (refusedAt n p)
 
 unfoldable pub running : Rules → List ℕ → (ins room : List ℤ) → Result
 running rules bytes ins room = ranOf rules (parse bytes) ins room
+
+-- what `run` promises of its answer, and of the room after it
+abbrev pub Ran : List ℕ → (ins room after : List ℤ) → RunAnswer → Type 0
+Ran bytes ins room after r = (runTold r ≡ running (runOp w64) bytes ins room .told) × (after ≡ sets room 0 (running (runOp w64) bytes ins room .numbers))

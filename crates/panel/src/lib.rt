@@ -12,7 +12,7 @@ ghost use mir.Syntax.{w64};
 ghost use Rattle.step.specs.Run.{runOp};
 ghost use Rattle.sheet.specs.Sheet.{stepsOf};
 ghost use Rattle.panel.specs.Run.{runStep, takes, taken?, actionsOf, suits?, runSheet, actionAt};
-ghost use Rattle.panel.specs.Answer.{runTold, running, ranOn, resultOf, Result};
+ghost use Rattle.panel.specs.Answer.{runTold, ranOn, resultOf, Result, Ran};
 
 // What running a sheet answers.
 pub enum RunAnswer {
@@ -153,7 +153,7 @@ fn run_listed(steps: &[i64], n: usize, inputs: &[i64], room: &mut [i64]) -> RunA
 
 // Runs a sheet on its inputs, and puts the number of each step into the lent room.
 pub fn run(bytes: &[u8], inputs: &[i64], room: &mut [i64]) -> RunAnswer
-    ensures { λ r. ⌜ (runTold r ≡ running (runOp w64) (now (bytes .entry)) (now (inputs .entry)) (now (room .entry)) .told) × (now (room .exit) ≡ sets (now (room .entry)) 0 (running (runOp w64) (now (bytes .entry)) (now (inputs .entry)) (now (room .entry)) .numbers)) ⌝ }
+    ensures { λ r. ⌜ Ran (now (bytes .entry)) (now (inputs .entry)) (now (room .entry)) (now (room .exit)) r ⌝ }
 {
     let mut steps = [0i64; 1024];
     match sheet::read(bytes, &mut steps) {

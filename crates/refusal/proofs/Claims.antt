@@ -10,35 +10,36 @@ use Rattle.refusal.specs.declared.Refusal.the-variants.{NotInDomain, Doe
 use Rattle.refusal.specs.Number.{numberOf}
 
 -- the refusal of a number
-unfoldable withNumber : ℕ → Refusal
+unfoldable pub withNumber : ℕ → Refusal
 withNumber n =
     getD
     (NoRoom ∷ NotInDomain ∷ DoesNotFit ∷ WouldAssert ∷ WouldPanic ∷ EndsEarly ∷ NotShortest ∷ UnknownOperator ∷ NotEarlier ∷ LowAboveHigh ∷ TooManySteps ∷ LeftOver ∷ DivisorZero ∷ ResultTooWide ∷ NotLogical ∷ InputsWrong ∷ NoRoom ∷ [])
     n
     NoRoom
 
-back : (r : Refusal) → withNumber (numberOf r) ≡ r
+-- a number tells its refusal
+pub number-back : (r : Refusal) → withNumber (numberOf r) ≡ r
 unfolding withNumber
-back NotInDomain = refl
-back DoesNotFit = refl
-back WouldAssert = refl
-back WouldPanic = refl
-back EndsEarly = refl
-back NotShortest = refl
-back UnknownOperator = refl
-back NotEarlier = refl
-back LowAboveHigh = refl
-back TooManySteps = refl
-back LeftOver = refl
-back DivisorZero = refl
-back ResultTooWide = refl
-back NotLogical = refl
-back InputsWrong = refl
-back NoRoom = refl
+number-back NotInDomain = refl
+number-back DoesNotFit = refl
+number-back WouldAssert = refl
+number-back WouldPanic = refl
+number-back EndsEarly = refl
+number-back NotShortest = refl
+number-back UnknownOperator = refl
+number-back NotEarlier = refl
+number-back LowAboveHigh = refl
+number-back TooManySteps = refl
+number-back LeftOver = refl
+number-back DivisorZero = refl
+number-back ResultTooWide = refl
+number-back NotLogical = refl
+number-back InputsWrong = refl
+number-back NoRoom = refl
 
 -- two refusals with one number are one
 pub number-tells : (r s : Refusal) → numberOf r ≡ numberOf s → r ≡ s
-number-tells r s e = sym (back r) ∙ ap withNumber e ∙ back s
+number-tells r s e = sym (number-back r) ∙ ap withNumber e ∙ number-back s
 
 pub number-range : (r : Refusal) → (1 ≤ numberOf r) × (numberOf r ≤ 16)
 number-range NotInDomain = omega arith

@@ -8,10 +8,9 @@ use lib.ListN.{length, take}
 use lib.Seq.{sets}
 use mir.Syntax.{w64}
 use mir.Val.{SFits}
-use Rattle.refusal.specs.Number.{numberOf}
-use Rattle.refusal.proofs.Claims.{number-tells}
+use Rattle.refusal.proofs.Claims.{withNumber, number-back}
 use Rattle.whole.specs.Test.{_<?_}
-use Rattle.sheet.specs.Got.{got}
+use Rattle.sheet.specs.Got.{Got, got, refused}
 use Rattle.sheet.specs.Number.{readNumber, groupsFrom}
 use Rattle.sheet.specs.Signed.{foldSigned, unfoldNumber}
 use Rattle.sheet.specs.Operator.{fieldsOf}
@@ -21,7 +20,7 @@ use Rattle.sheet.specs.Sheet.{stepsFrom, parse, bytesOf, flat, stepsOf}
 use Rattle.sheet.specs.Valid.{ValidSheet}
 use Rattle.sheet.specs.Lent.{Bytes, Words}
 use Rattle.sheet.specs.Found.{numberFound}
-use Rattle.sheet.specs.Answer.{done, refusedAt, answer, content, reading, writing, readTold, writeTold}
+use Rattle.sheet.specs.Answer.{Told, done, refusedAt, refusedBy, answer, content, reading, writing, readTold, writeTold}
 use Rattle.sheet.specs.declared.number.NumberRead.{NumberRead}
 use Rattle.sheet.specs.declared.number.NumberRead.the-variants.{Value, Refused as NoNumber}
 use Rattle.sheet.specs.declared.ReadAnswer.{ReadAnswer}
@@ -124,55 +123,56 @@ pub number-unfolds : (n : ℕ) → n < 2 ^ 64 → SFits w64 (unfoldNumber n) × 
 number-unfolds n h = (unfold-fits n h, fold-unfold n)
 
 -- The sheet of number (14), read.
-pub fourteen : List ℕ
+abbrev pub fourteen : List ℕ
 fourteen = 0x03 ∷ 0x01 ∷ 0x02 ∷ 0x08 ∷ 0x00 ∷ 0xF4 ∷ 0x03 ∷ 0x04 ∷ 0x00 ∷ 0x01 ∷ []
 
 pub fourteen-read : parse fourteen ≡ got (step (pos 1) (pos 1) (pos 4) (pos 0) ∷ step (pos 0) (pos 250) (pos 0) (pos 0) ∷ step (pos 4) (pos 0) (pos 1) (pos 0) ∷ []) 10
-unfolding fourteen parse stepsFrom stepAt fieldsAt fieldsOf fieldAt readNumber groupsFrom _<?_
+unfolding parse stepsFrom stepAt fieldsAt fieldsOf fieldAt readNumber groupsFrom _<?_
 fourteen-read = refl
 
 -- ---- answers are determined
 
-read-told : (r r′ : ReadAnswer) → readTold r ≡ readTold r′ → r ≡ r′
-read-told (Steps n) (Steps n′) h = cc
-read-told (Steps n) (RefusedAt r p) h = let z : _≡_ {A = ℕ} 0 1 = cc in absurd (omega arith)
-read-told (Steps n) (Refused r) h = let z : _≡_ {A = ℕ} 0 1 = cc in absurd (omega arith)
-read-told (RefusedAt r p) (Steps n) h = let z : _≡_ {A = ℕ} 0 1 = cc in absurd (omega arith)
-read-told (RefusedAt r p) (RefusedAt r′ p′) h = let e : numberOf r ≡ numberOf r′ = cc in cc (number-tells r r′ e)
-read-told (RefusedAt r p) (Refused r′) h = let z : _≡_ {A = ℕ} 0 1 = cc in absurd (omega arith)
-read-told (Refused r) (Steps n) h = let z : _≡_ {A = ℕ} 0 1 = cc in absurd (omega arith)
-read-told (Refused r) (RefusedAt r′ p) h = let z : _≡_ {A = ℕ} 0 1 = cc in absurd (omega arith)
-read-told (Refused r) (Refused r′) h = let e : numberOf r ≡ numberOf r′ = cc in cc (number-tells r r′ e)
+-- the answer of what is told
+abbrev readBack : Told → ReadAnswer
+readBack (done n) = Steps n
+readBack (refusedAt r p) = RefusedAt (withNumber r) p
+readBack (refusedBy r) = Refused (withNumber r)
 
-write-told : (r r′ : WriteAnswer) → writeTold r ≡ writeTold r′ → r ≡ r′
-write-told (Written n) (Written n′) h = cc
-write-told (Written n) (UnwrittenAt r p) h = let z : _≡_ {A = ℕ} 0 1 = cc in absurd (omega arith)
-write-told (Written n) (Unwritten r) h = let z : _≡_ {A = ℕ} 0 1 = cc in absurd (omega arith)
-write-told (UnwrittenAt r p) (Written n) h = let z : _≡_ {A = ℕ} 0 1 = cc in absurd (omega arith)
-write-told (UnwrittenAt r p) (UnwrittenAt r′ p′) h = let e : numberOf r ≡ numberOf r′ = cc in cc (number-tells r r′ e)
-write-told (UnwrittenAt r p) (Unwritten r′) h = let z : _≡_ {A = ℕ} 0 1 = cc in absurd (omega arith)
-write-told (Unwritten r) (Written n) h = let z : _≡_ {A = ℕ} 0 1 = cc in absurd (omega arith)
-write-told (Unwritten r) (UnwrittenAt r′ p) h = let z : _≡_ {A = ℕ} 0 1 = cc in absurd (omega arith)
-write-told (Unwritten r) (Unwritten r′) h = let e : numberOf r ≡ numberOf r′ = cc in cc (number-tells r r′ e)
+abbrev writeBack : Told → WriteAnswer
+writeBack (done n) = Written n
+writeBack (refusedAt r p) = UnwrittenAt (withNumber r) p
+writeBack (refusedBy r) = Unwritten (withNumber r)
 
-number-told : (r r′ : NumberRead) → numberFound r ≡ numberFound r′ → r ≡ r′
-number-told (Value n p) (Value n′ p′) h = cc
-number-told (Value n p) (NoNumber r q) h = let z : _≡_ {A = ℕ} 0 1 = cc in absurd (omega arith)
-number-told (NoNumber r q) (Value n p) h = let z : _≡_ {A = ℕ} 0 1 = cc in absurd (omega arith)
-number-told (NoNumber r p) (NoNumber r′ p′) h = let e : numberOf r ≡ numberOf r′ = cc in cc (number-tells r r′ e)
+abbrev numberBack : Got ℕ → NumberRead
+numberBack (got n p) = Value n p
+numberBack (refused r p) = NoNumber (withNumber r) p
+
+read-back : (r : ReadAnswer) → readBack (readTold r) ≡ r
+read-back (Steps n) = refl
+read-back (RefusedAt r p) = ap (λ q. RefusedAt q p) (number-back r)
+read-back (Refused r) = ap Refused (number-back r)
+
+write-back : (r : WriteAnswer) → writeBack (writeTold r) ≡ r
+write-back (Written n) = refl
+write-back (UnwrittenAt r p) = ap (λ q. UnwrittenAt q p) (number-back r)
+write-back (Unwritten r) = ap Unwritten (number-back r)
+
+number-read-back : (r : NumberRead) → numberBack (numberFound r) ≡ r
+number-read-back (Value n p) = refl
+number-read-back (NoNumber r p) = ap (λ q. NoNumber q p) (number-back r)
 
 -- Any two answers that reading's promise admits are equal, and the buffers with them.
 pub read-determined : (s : List ℕ) (room after after′ : List ℤ) (r r′ : ReadAnswer)
     → (readTold r ≡ answer (reading s) room) × (after ≡ content (reading s) room) → (readTold r′ ≡ answer (reading s) room) × (after′ ≡ content (reading s) room)
     → (r ≡ r′) × (after ≡ after′)
-read-determined s room after after′ r r′ h h′ = (read-told r r′ (h .0 ∙ sym (h′ .0)), h .1 ∙ sym (h′ .1))
+read-determined s room after after′ r r′ h h′ = (sym (read-back r) ∙ ap readBack (h .0 ∙ sym (h′ .0)) ∙ read-back r′, h .1 ∙ sym (h′ .1))
 
 -- The same of writing.
 pub write-determined : (l : List ℤ) (out after after′ : List ℕ) (r r′ : WriteAnswer)
     → (writeTold r ≡ answer (writing l) out) × (after ≡ content (writing l) out) → (writeTold r′ ≡ answer (writing l) out) × (after′ ≡ content (writing l) out)
     → (r ≡ r′) × (after ≡ after′)
-write-determined l out after after′ r r′ h h′ = (write-told r r′ (h .0 ∙ sym (h′ .0)), h .1 ∙ sym (h′ .1))
+write-determined l out after after′ r r′ h h′ = (sym (write-back r) ∙ ap writeBack (h .0 ∙ sym (h′ .0)) ∙ write-back r′, h .1 ∙ sym (h′ .1))
 
 -- The same of a number at a place.
 pub number-determined : (s : List ℕ) (at : ℕ) (r r′ : NumberRead) → numberFound r ≡ readNumber s at → numberFound r′ ≡ readNumber s at → r ≡ r′
-number-determined s at r r′ h h′ = number-told r r′ (h ∙ sym h′)
+number-determined s at r r′ h h′ = sym (number-read-back r) ∙ ap numberBack (h ∙ sym h′) ∙ number-read-back r′

@@ -258,17 +258,3 @@ eq-wrong a b isBool = (
   λ h. let k = and-both (eqb (indexOf (logicalEq a b isBool)) 3) (filled (meet a b)) (eq-test-of a b isBool ∙ h) in
       (told-same (logicalEq a b isBool) Zero .1 (k .0), shared a b .0 (k .1)),
 )
-
--- ---- numbers (1) to (3) of the fourteen, by the definitions alone
-
-pub number-1 : mul Negative NonZero ≡ NonZero
-unfolding mul
-number-1 = refl
-
-pub number-2 : (ported.weakCmp Zero NonNeg ≡ Greater) × (mended.weakCmp Zero NonNeg ≡ Less)
-unfolding ported.weakCmp mended.weakCmp sub add neg
-number-2 = (refl, refl)
-
-pub number-3 : (ported.div Positive NonZero ≡ NonZero) × (mended.div Positive NonZero ≡ Top)
-unfolding ported.div mended.div mul
-number-3 = (refl, refl)

@@ -5,4 +5,4 @@ pub mod Ranges
 pub mod Gave
 pub mod SignHas
 pub mod SpacingHas
-pub mod Lawful
+pub mod Claims

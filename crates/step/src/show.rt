@@ -9,11 +9,31 @@ ghost use mathlib.Core.Path.{_≡_};
 ghost use mir.Syntax.{w64};
 ghost use Rattle.step.specs.Show.{showOp, inputShown, shownTold};
 
-// What is known of a step's numbers.
+// What is known of a step's numbers. Other crates ask it by its functions.
 pub struct Shown {
     pub range: Interval,
     pub spacing: Congruence,
     pub sign: Sign,
+}
+
+impl Shown {
+    pub fn range(self) -> Interval
+        ensures { λ r. ⌜ r ≡ self .range ⌝ }
+    {
+        self.range
+    }
+
+    pub fn spacing(self) -> Congruence
+        ensures { λ r. ⌜ r ≡ self .spacing ⌝ }
+    {
+        self.spacing
+    }
+
+    pub fn sign(self) -> Sign
+        ensures { λ r. ⌜ r ≡ self .sign ⌝ }
+    {
+        self.sign
+    }
 }
 
 // What a step shows, or its refusal by 12, 13 or 14.

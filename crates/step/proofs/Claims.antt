@@ -1,7 +1,10 @@
--- The stopping panel is lawful at every width.
+-- What each operator shows is honest to its runs at every width: what is shown holds every number, and a refusal has numbers that stop.
+-- So the stopping panel is lawful.
 use mathlib.Core.Path.{_≡_, refl, sym, ap, _∙_, subst}
 use mathlib.Core.Logic.{_≢_, inl, inr}
 use mathlib.Core.Bool.{Bool, true, false}
+use Prim.Native.Nat.{ℕ}
+use native.Mathlib.Omega.{arith}
 use lib.IntN.{ℤ, pos}
 use lib.Signed.{_≤ℤ_}
 use mir.Syntax.{Width}
@@ -29,7 +32,12 @@ use Rattle.step.specs.Run.{runOp}
 use Rattle.step.specs.Range.{Answered, shows, declines, rangeOp}
 use Rattle.step.specs.Spacing.{spacingOp}
 use Rattle.step.specs.Signs.{signOp}
-use Rattle.step.specs.Show.{showOp, shown, beside, inputShown, zeroShown}
+use Rattle.step.specs.declared.show.ShownAnswer.{ShownAnswer}
+use Rattle.step.specs.declared.show.ShownAnswer.the-variants as showns
+use Rattle.step.specs.declared.range.RangeAnswer.{RangeAnswer}
+use Rattle.step.specs.declared.range.RangeAnswer.the-variants as ranges
+use Rattle.step.specs.Told.{rangeTold}
+use Rattle.step.specs.Show.{showOp, shown, beside, inputShown, zeroShown, shownTold}
 use Rattle.step.specs.Valid.{ValidOperator}
 use Rattle.step.specs.Fair.{GivesIn, given, StopsOn, Fair, passes, refuses}
 use Rattle.step.specs.Panel.{Panel, Stopped, Honest, gives-in, stops-by, Lawful}
@@ -65,6 +73,22 @@ module _ (w : Width) (o : Operator) (s t u : Shown) (f : ValidOperator w o) (ps 
   unfolding showOp
   honest = turned (fair (ps .range) (pt .range) (pu .range) o f)
 
+  -- v is shown: every run on numbers of the operands gives a number, and it lies in v
+  pub show-sound : (v : Shown) → showOp w o s t u ≡ shows v → (x y z : ℤ) → InShown s x → InShown t y → InShown u z → (n : ℤ) × (runOp w o x y z ≡ Gives n) × InShown v n
+  show-sound v e = by-answer honest e
+    where
+      by-answer : {a : Answered Shown} → Honest (stopping w) o s t u a → a ≡ shows v → (x y z : ℤ) → InShown s x → InShown t y → InShown u z → (n : ℤ) × (runOp w o x y z ≡ Gives n) × InShown v n
+      by-answer (gives-in {v = v′} g p) e x y z a b d = let q : v′ ≡ v = cc in subst (λ k. (n : ℤ) × (runOp w o x y z ≡ Gives n) × InShown k n) q (g x y z a b d)
+      by-answer (stops-by m) e x y z a b d = let q : _≡_ {A = ℕ} 0 1 = cc in absurd (omega arith)
+
+  -- refused by r: the operands' ranges hold numbers, each drawn from its own, on which the run stops by r
+  pub show-refuses : (r : Refusal) → showOp w o s t u ≡ declines r → Stopped (stopping w) o s t u r
+  show-refuses r e = by-answer honest e
+    where
+      by-answer : {a : Answered Shown} → Honest (stopping w) o s t u a → a ≡ declines r → Stopped (stopping w) o s t u r
+      by-answer (gives-in g p) e = let q : _≡_ {A = ℕ} 0 1 = cc in absurd (omega arith)
+      by-answer (stops-by {r = r′} m) e = let q : r′ ≡ r = cc in subst (λ k. Stopped (stopping w) o s t u k) q m
+
 -- ---- inputs
 
 module _ (w : Width) (l h : ℤ) (p : Proper w (l ⋯ h)) where
@@ -91,3 +115,27 @@ lawful w = record {
   input-has = λ l h x p a b. input-has w l h p x a b;
   honest = λ o s t u f ps pt pu. honest w o s t u f ps pt pu;
 }
+
+-- ---- what is told is one answer's
+
+abbrev rangeBack : Answered Interval → RangeAnswer
+rangeBack (shows v) = ranges.Shows v
+rangeBack (declines r) = ranges.Declines r
+
+abbrev shownBack : Answered Shown → ShownAnswer
+shownBack (shows v) = showns.Shows v
+shownBack (declines r) = showns.Declines r
+
+range-back : (r : RangeAnswer) → rangeBack (rangeTold r) ≡ r
+range-back (ranges.Shows v) = refl
+range-back (ranges.Declines r) = refl
+
+shown-back : (r : ShownAnswer) → shownBack (shownTold r) ≡ r
+shown-back (showns.Shows v) = refl
+shown-back (showns.Declines r) = refl
+
+pub range-fixed : (r r′ : RangeAnswer) → rangeTold r ≡ rangeTold r′ → r ≡ r′
+range-fixed r r′ h = sym (range-back r) ∙ ap rangeBack h ∙ range-back r′
+
+pub shown-fixed : (r r′ : ShownAnswer) → shownTold r ≡ shownTold r′ → r ≡ r′
+shown-fixed r r′ h = sym (shown-back r) ∙ ap shownBack h ∙ shown-back r′

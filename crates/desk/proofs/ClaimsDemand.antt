@@ -30,7 +30,8 @@ data StepFair (P : Panel) (shown : List (P .Shown)) (s : Action) : Answered (P .
   halts : {r : Refusal} → StepStops P shown r s → StepFair P shown s (declines r)
 
 module _ (P : Panel) (L : Lawful P) where
-  look : {ns : List ℤ} {vs : List (P .Shown)} → Each P ns vs → (k : ℕ) → P .Has (shownAt P vs k) (at ns k)
+  -- each number lies in what is shown at its place
+  pub look : {ns : List ℤ} {vs : List (P .Shown)} → Each P ns vs → (k : ℕ) → P .Has (shownAt P vs k) (at ns k)
   look none k = L .zero-has
   look (next h e) zero = h
   look (next h e) (suc k) = look e k
@@ -111,3 +112,8 @@ module _ (P : Panel) where
 
   pub shows-each : (steps : List Action) (vs : List (P .Shown)) → checkFrom P [] steps ≡ passed vs → length vs ≡ length steps
   shows-each steps vs c = omega (arith, count steps [] vs c)
+
+  -- a sheet of no steps passes
+  pub no-steps-pass : checkFrom P [] [] ≡ passed []
+  unfolding checkFrom
+  no-steps-pass = refl
