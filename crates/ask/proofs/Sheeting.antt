@@ -16,7 +16,8 @@ use Rattle.sheet.specs.Answer.{done, refusedAt, refusedBy, Plan, fill, stop, an
 use Rattle.sheet.proofs.Parts.{length-flat}
 use Rattle.sheet.proofs.Plans.{steps-count}
 use Rattle.sheet.proofs.Answered.{reads, refuses, parse-few, writes, stored-first}
-use Rattle.ask.specs.Sheets.{spaced, refusedText, readSaid, writeSaid}
+use Rattle.say.specs.Texts.{spaced}
+use Rattle.ask.specs.Sheets.{refusedText, readSaid, writeSaid}
 
 -- ---- reading
 

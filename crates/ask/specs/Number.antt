@@ -8,19 +8,16 @@ use Rattle.whole.specs.Divides.{gcd, lcm}
 use Rattle.whole.specs.Exact.{exactly}
 use Rattle.whole.specs.declared.Exact.{Exact}
 use Rattle.whole.specs.declared.Exact.the-variants.{Is, DoesNotFit}
-use Rattle.text.specs.Ascii.{ascii}
-use Rattle.text.specs.Decimal.{decimal, digits}
+use Rattle.text.specs.Decimal.{decimal}
+use Rattle.say.specs.Texts.{refusalText, notUnderstood}
 use Rattle.ask.specs.declared.take.Pair.{Pair}
 use Rattle.ask.specs.declared.take.Pair.the-variants.{Are, Not}
 use Rattle.ask.specs.Taken.{named, nameAfter, nextAfter, twoAfter}
 
-abbrev pub notUnderstood : List (List ℕ)
-notUnderstood = ascii "not understood" ∷ []
-
 -- a number that fits is said in decimal, one that doesn't is refused by 2
 abbrev pub exactSaid : Exact → List (List ℕ)
 exactSaid (Is n) = decimal n ∷ []
-exactSaid DoesNotFit = ascii "refused by " ∷ (digits 2 ∷ [])
+exactSaid DoesNotFit = refusalText 2
 
 abbrev pub ofTwo : (ℕ → ℕ → ℕ) → Pair → List (List ℕ)
 ofTwo f (Are a b) = exactSaid (exactly w64 (pos (f (natAbs a) (natAbs b))))

@@ -1,6 +1,6 @@
 -- What the family `sheet` says: the numbers of the steps, each after a space; hexadecimal bytes; or a refusal.
 use Prim.Native.Nat.{ℕ}
-use mathlib.Core.List.{List, [], _∷_}
+use mathlib.Core.List.{List, [], _∷_, _++_}
 use lib.Dec.{leb}
 use lib.IntN.{ℤ}
 use lib.ListN.{length}
@@ -8,8 +8,8 @@ use mir.Syntax.{w64}
 use Rattle.whole.specs.Choice.{pick}
 use Rattle.refusal.specs.Number.{numberOf}
 use Rattle.text.specs.Ascii.{ascii}
-use Rattle.text.specs.Decimal.{decimal, digits}
 use Rattle.text.specs.Hex.{hexText}
+use Rattle.say.specs.Texts.{spaced, refusalText, placeText}
 use Rattle.sheet.specs.Got.{Got, got, refused}
 use Rattle.sheet.specs.Step.{Step}
 use Rattle.sheet.specs.Sheet.{flat}
@@ -17,13 +17,9 @@ use Rattle.step.specs.Run.{runOp}
 use Rattle.panel.specs.Run.{Run, ended, stoppedAt, actionsOf, suits?, runSheet}
 use Rattle.sheet.specs.Answer.{Told, done, refusedAt, refusedBy, Plan, fill, stop}
 
-unfoldable pub spaced : List ℤ → List (List ℕ)
-spaced [] = []
-spaced (n ∷ ns) = ascii " " ∷ (decimal n ∷ spaced ns)
-
 abbrev pub refusedText : Told → List (List ℕ)
-refusedText (refusedAt r p) = ascii "refused at " ∷ (digits p ∷ (ascii " by " ∷ (digits r ∷ [])))
-refusedText (refusedBy r) = ascii "refused by " ∷ (digits r ∷ [])
+refusedText (refusedAt r p) = ascii "refused at " ∷ placeText p r
+refusedText (refusedBy r) = refusalText r
 refusedText (done n) = []
 
 abbrev pub readSaid : Got (List Step) → List (List ℕ)
@@ -38,7 +34,7 @@ writeSaid (stop t) = refusedText t
 -- a run's numbers: those of all steps, or those before the one that stops
 abbrev pub ranSaid : Run → List (List ℕ)
 ranSaid (ended ns) = ascii "ended" ∷ spaced ns
-ranSaid (stoppedAt ns r) = ascii "stopped at " ∷ (digits (length ns) ∷ (ascii " by " ∷ (digits (numberOf r) ∷ spaced ns)))
+ranSaid (stoppedAt ns r) = ascii "stopped at " ∷ (placeText (length ns) (numberOf r) ++ spaced ns)
 
 abbrev pub runSaid : Got (List Step) → List ℤ → List (List ℕ)
 runSaid (got xs end) ins = pick (suits? (actionsOf xs) ins) (ranSaid (runSheet (runOp w64) ins xs)) (refusedText (refusedBy 15))

@@ -1,5 +1,5 @@
 // Answers of every family, and their texts.
-ghost use Rattle.ask.specs.Said.{Says};
+ghost use Rattle.say.specs.Said.{Says};
 ghost use Rattle.ask.specs.Answer.{answerSaid};
 use congruence::Congruence;
 use congruence::CongruenceAnswer;
@@ -34,16 +34,16 @@ pub fn say(out: &mut [u8], made: usize, a: Answer) -> usize
     ensures { λ r. ⌜ Says (answerSaid a) (now (out .entry)) made (now (out .exit)) r ⌝ }
 {
     match a {
-        Answer::Sign(s) => crate::say::sign(out, made, s),
-        Answer::Range(i) => crate::say::interval(out, made, i),
-        Answer::Ranges(p) => crate::say::intervals(out, made, p),
-        Answer::Spacing(c) => crate::say::congruence(out, made, c),
-        Answer::Order(o) => crate::say::order(out, made, o),
-        Answer::Truth(t) => crate::say::truth(out, made, t),
-        Answer::Number(n) => crate::say::number(out, made, n),
-        Answer::NoNumber => crate::say::none(out, made),
-        Answer::Refused(r) => crate::say::refused(out, made, r),
-        Answer::NotUnderstood => crate::say::not_understood(out, made),
+        Answer::Sign(s) => say::sign(out, made, s),
+        Answer::Range(i) => say::interval(out, made, i),
+        Answer::Ranges(p) => say::intervals(out, made, p),
+        Answer::Spacing(c) => say::congruence(out, made, c),
+        Answer::Order(o) => say::order(out, made, o),
+        Answer::Truth(t) => say::truth(out, made, t),
+        Answer::Number(n) => say::number(out, made, n),
+        Answer::NoNumber => say::none(out, made),
+        Answer::Refused(r) => say::refused(out, made, r),
+        Answer::NotUnderstood => say::not_understood(out, made),
     }
 }
 

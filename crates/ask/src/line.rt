@@ -39,13 +39,13 @@ fn say(line: &[u8], out: &mut [u8], made: usize) -> usize {
             INTERVAL => answer::say(out, made, crate::intervals::answer(line, at)),
             TRANSFER => answer::say(out, made, crate::transfers::answer(line, at)),
             MENDED => answer::say(out, made, crate::mended::answer(line, at)),
-            _ => crate::say::not_understood(out, made),
+            _ => say::not_understood(out, made),
         },
         CE => match first {
             CONGRUEN => answer::say(out, made, crate::congruences::answer(line, at)),
-            _ => crate::say::not_understood(out, made),
+            _ => say::not_understood(out, made),
         },
-        _ => crate::say::not_understood(out, made),
+        _ => say::not_understood(out, made),
     }
 }
 
@@ -55,11 +55,11 @@ pub fn answer(line: &[u8], out: &mut [u8], made: usize) -> usize {
         return too_long(out, made);
     }
     let e = say(line, out, made);
-    crate::say::word(out, e, b"\n")
+    say::word(out, e, b"\n")
 }
 
 // The answer to a line that is too long.
 pub fn too_long(out: &mut [u8], made: usize) -> usize {
-    let e = crate::say::not_understood(out, made);
-    crate::say::word(out, e, b"\n")
+    let e = say::not_understood(out, made);
+    say::word(out, e, b"\n")
 }

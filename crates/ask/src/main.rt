@@ -6,7 +6,6 @@ mod line;
 mod mended;
 mod names;
 mod number;
-mod say;
 mod sheets;
 mod signs;
 mod take;
@@ -34,13 +33,6 @@ fn line_end(s: &[u8], at: usize, to: usize) -> usize
     i
 }
 
-// Writes the first `made` bytes.
-fn flush(out: &[u8], made: usize) {
-    if made <= out.len() {
-        io::write_all(1, &out[0..made]);
-    }
-}
-
 // Answers the lines that end between `from` and `to`, and says where the last of them ends.
 fn answer_lines(s: &[u8], from: usize, to: usize, out: &mut [u8]) -> usize
     requires { ⌜ (from ≤ to) × (to ≤ length (now s)) ⌝ }
@@ -54,13 +46,13 @@ fn answer_lines(s: &[u8], from: usize, to: usize, out: &mut [u8]) -> usize
             break;
         }
         if ANSWER < made {
-            flush(out, made);
+            files::print(out, made);
             made = 0;
         }
         made = line::answer(&s[used..e], out, made);
         used = e + 1;
     }
-    flush(out, made);
+    files::print(out, made);
     used
 }
 
@@ -94,13 +86,13 @@ fn answer_rest(s: &[u8], to: usize, out: &mut [u8])
 {
     if 0 < to {
         let made = line::answer(&s[0..to], out, 0);
-        flush(out, made);
+        files::print(out, made);
     }
 }
 
 fn answer_too_long(out: &mut [u8]) {
     let made = line::too_long(out, 0);
-    flush(out, made);
+    files::print(out, made);
 }
 
 // What is known between two reads.

@@ -2,7 +2,7 @@
 ghost use mathlib.Core.Path.{_≡_};
 ghost use Rattle.whole.specs.Divides as divides;
 ghost use Rattle.ask.specs.Taken.{twoAfter};
-ghost use Rattle.ask.specs.Said.{Says};
+ghost use Rattle.say.specs.Said.{Says};
 ghost use Rattle.ask.specs.Number.{exactSaid, ofTwo, numberSaid};
 use crate::take::Pair;
 use refusal::Refusal;
@@ -19,8 +19,8 @@ fn exact(out: &mut [u8], made: usize, e: Exact) -> usize
     ensures { λ r. ⌜ Says (exactSaid e) (now (out .entry)) made (now (out .exit)) r ⌝ }
 {
     match e {
-        Exact::Is(n) => crate::say::number(out, made, n),
-        Exact::DoesNotFit => crate::say::refused(out, made, Refusal::DoesNotFit),
+        Exact::Is(n) => say::number(out, made, n),
+        Exact::DoesNotFit => say::refused(out, made, Refusal::DoesNotFit),
     }
 }
 
@@ -29,7 +29,7 @@ fn gcd(line: &[u8], at: usize, out: &mut [u8], made: usize) -> usize
 {
     match crate::take::two(line, at) {
         Pair::Are(a, b) => exact(out, made, whole::gcd(a, b)),
-        Pair::Not => crate::say::not_understood(out, made),
+        Pair::Not => say::not_understood(out, made),
     }
 }
 
@@ -38,7 +38,7 @@ fn lcm(line: &[u8], at: usize, out: &mut [u8], made: usize) -> usize
 {
     match crate::take::two(line, at) {
         Pair::Are(a, b) => exact(out, made, whole::lcm(a, b)),
-        Pair::Not => crate::say::not_understood(out, made),
+        Pair::Not => say::not_understood(out, made),
     }
 }
 
@@ -54,8 +54,8 @@ pub fn say(line: &[u8], at: usize, out: &mut [u8], made: usize) -> usize
         SHORT => match first {
             GCD => gcd(line, next, out, made),
             LCM => lcm(line, next, out, made),
-            _ => crate::say::not_understood(out, made),
+            _ => say::not_understood(out, made),
         },
-        _ => crate::say::not_understood(out, made),
+        _ => say::not_understood(out, made),
     }
 }

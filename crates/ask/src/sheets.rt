@@ -1,7 +1,7 @@
 // The family `sheet`: bytes are hexadecimal digits, a step is four numbers.
 ghost use Rattle.sheet.specs.Sheet.{parse};
 ghost use Rattle.sheet.specs.Answer.{writing};
-ghost use Rattle.ask.specs.Said.{Says};
+ghost use Rattle.say.specs.Said.{Says};
 ghost use Rattle.ask.specs.Sheets.{readSaid, writeSaid, runSaid};
 use crate::take::HexBytes;
 use crate::take::Many;
@@ -25,11 +25,11 @@ fn read_bytes(bytes: &[u8], out: &mut [u8], made: usize) -> usize
     let mut steps = [0i64; 1024];
     match sheet::read(bytes, &mut steps) {
         ReadAnswer::Steps(n) => {
-            let e = crate::say::word(out, made, b"read");
-            crate::say::numbers(out, e, &steps[0..n * 4])
+            let e = say::word(out, made, b"read");
+            say::numbers(out, e, &steps[0..n * 4])
         }
-        ReadAnswer::RefusedAt(why, place) => crate::say::refused_at(out, made, place, why),
-        ReadAnswer::Refused(why) => crate::say::refused(out, made, why),
+        ReadAnswer::RefusedAt(why, place) => say::refused_at(out, made, place, why),
+        ReadAnswer::Refused(why) => say::refused(out, made, why),
     }
 }
 
@@ -41,10 +41,10 @@ fn read(line: &[u8], at: usize, out: &mut [u8], made: usize) -> usize {
             if next == line.len() {
                 read_bytes(&room[0..n], out, made)
             } else {
-                crate::say::not_understood(out, made)
+                say::not_understood(out, made)
             }
         }
-        HexBytes::Not => crate::say::not_understood(out, made),
+        HexBytes::Not => say::not_understood(out, made),
     }
 }
 
@@ -55,11 +55,11 @@ fn write_numbers(steps: &[i64], out: &mut [u8], made: usize) -> usize
     let mut bytes = [0u8; 5378];
     match sheet::write(steps, &mut bytes) {
         WriteAnswer::Bytes(n) => {
-            let e = crate::say::word(out, made, b"written ");
-            crate::say::bytes(out, e, &bytes[0..n])
+            let e = say::word(out, made, b"written ");
+            say::bytes(out, e, &bytes[0..n])
         }
-        WriteAnswer::RefusedAt(why, step) => crate::say::refused_at(out, made, step, why),
-        WriteAnswer::Refused(why) => crate::say::refused(out, made, why),
+        WriteAnswer::RefusedAt(why, step) => say::refused_at(out, made, step, why),
+        WriteAnswer::Refused(why) => say::refused(out, made, why),
     }
 }
 
@@ -68,7 +68,7 @@ fn write(line: &[u8], at: usize, out: &mut [u8], made: usize) -> usize {
     let mut room = [0i64; 16384];
     match crate::take::numbers(line, at, &mut room) {
         Many::Are(n) => write_numbers(&room[0..n], out, made),
-        Many::Not => crate::say::not_understood(out, made),
+        Many::Not => say::not_understood(out, made),
     }
 }
 
@@ -79,15 +79,15 @@ fn run_inputs(bytes: &[u8], inputs: &[i64], out: &mut [u8], made: usize) -> usiz
     let mut room = [0i64; 256];
     match panel::run(bytes, inputs, &mut room) {
         RunAnswer::Ended(n) => {
-            let e = crate::say::word(out, made, b"ended");
-            crate::say::numbers(out, e, &room[0..n])
+            let e = say::word(out, made, b"ended");
+            say::numbers(out, e, &room[0..n])
         }
         RunAnswer::StoppedAt(why, step) => {
-            let e = crate::say::stopped_at(out, made, step, why);
-            crate::say::numbers(out, e, &room[0..step])
+            let e = say::stopped_at(out, made, step, why);
+            say::numbers(out, e, &room[0..step])
         }
-        RunAnswer::RefusedAt(why, place) => crate::say::refused_at(out, made, place, why),
-        RunAnswer::Refused(why) => crate::say::refused(out, made, why),
+        RunAnswer::RefusedAt(why, place) => say::refused_at(out, made, place, why),
+        RunAnswer::Refused(why) => say::refused(out, made, why),
     }
 }
 
@@ -95,7 +95,7 @@ fn run_bytes(bytes: &[u8], line: &[u8], at: usize, out: &mut [u8], made: usize) 
     let mut room = [0i64; 16384];
     match crate::take::numbers(line, at, &mut room) {
         Many::Are(n) => run_inputs(bytes, &room[0..n], out, made),
-        Many::Not => crate::say::not_understood(out, made),
+        Many::Not => say::not_understood(out, made),
     }
 }
 
@@ -103,7 +103,7 @@ fn run(line: &[u8], at: usize, out: &mut [u8], made: usize) -> usize {
     let mut room = [0u8; 16384];
     match crate::take::bytes(line, at, &mut room) {
         HexBytes::Are(n, next) => run_bytes(&room[0..n], line, next, out, made),
-        HexBytes::Not => crate::say::not_understood(out, made),
+        HexBytes::Not => say::not_understood(out, made),
     }
 }
 
@@ -118,8 +118,8 @@ pub fn say(line: &[u8], at: usize, out: &mut [u8], made: usize) -> usize {
             READ => read(line, next, out, made),
             RUN => run(line, next, out, made),
             WRITE => write(line, next, out, made),
-            _ => crate::say::not_understood(out, made),
+            _ => say::not_understood(out, made),
         },
-        _ => crate::say::not_understood(out, made),
+        _ => say::not_understood(out, made),
     }
 }

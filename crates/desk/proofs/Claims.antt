@@ -31,10 +31,11 @@ use Rattle.panel.specs.Answer.{endedWith, runTold, Ran}
 use Rattle.panel.specs.declared.RunAnswer.{RunAnswer}
 use Rattle.panel.specs.declared.RunAnswer.the-variants.{Ended}
 use Rattle.panel.proofs.Claims.{run-told}
+use Rattle.panel.proofs.Told.{actions-length}
 use Rattle.panel.proofs.Answers.{runs-read, ran-suited}
-use Rattle.desk.specs.Check.{Check, passed, refusedAt, checkFrom, checkSheet}
+use Rattle.desk.specs.Check.{Check, passed, refusedAt, shownBy, checkFrom, checkSheet}
 use Rattle.desk.specs.Five.{flat, shownIn}
-use Rattle.desk.specs.Promise.{AllValid, Suits, Each, none, next, Ends, StopsAfter}
+use Rattle.desk.specs.Promise.{AllValid, AllGood, Suits, Each, none, next, Ends, StopsAfter}
 use Rattle.desk.specs.Answer.{Told, passedWith, atStep, atByte, refusedBy, checkTold, Result, nothing, resultOf, checkedOn, checking, Checked}
 use Rattle.desk.specs.Kept.{InRanges, Reaches, StopsThere}
 use Rattle.desk.specs.declared.CheckAnswer.{CheckAnswer}
@@ -58,6 +59,10 @@ module _ (s : List ℕ) (bytes : Bytes s) (steps : List Step) (end : ℕ) (read 
   pub refused-step-stops : (vs : List Shown) (r : Refusal) → checkSheet (stopping w64) steps ≡ refusedAt vs r → StopsAfter (stopping w64) (checkFrom (stopping w64) []) (actionsOf steps) vs r
   refused-step-stops vs r c = Demand.refused-stops (stopping w64) (lawful w64) (actionsOf steps) valid vs r c
 
+  -- each shown value has a range with a number, whose numbers fit, and a canonical spacing of the width
+  pub shown-good : AllGood (stopping w64) (shownBy (checkSheet (stopping w64) steps))
+  shown-good = Demand.all-good (stopping w64) (lawful w64) (actionsOf steps) valid
+
 -- ---- what is answered is determined
 
 -- the answer of what is told
@@ -78,11 +83,6 @@ pub check-determined : (bytes : List ℕ) (room after after′ : List ℤ) (r r�
 check-determined bytes room after after′ r r′ h h′ = (sym (check-back r) ∙ ap checkBack (h .0 ∙ sym (h′ .0)) ∙ check-back r′, h .1 ∙ sym (h′ .1))
 
 -- ---- demand 3 for the answers of `check` and `run`
-
-as-many : (steps : List Step) → length (actionsOf steps) ≡ length steps
-unfolding actionsOf
-as-many [] = refl
-as-many (s ∷ ss) = ap suc (as-many ss)
 
 each-as-many : {ns : List ℤ} {vs : List Shown} → Each (stopping w64) ns vs → length ns ≡ length vs
 each-as-many none = refl
@@ -120,7 +120,7 @@ module _ (bytes : List ℕ) (lent : Bytes bytes) where
       by-check (passed vs) c t s e =
           let d = passed-sheet-runs bytes lent (i .steps) (i .end) (i .read) vs c ins (i .suits) in
           let m : n ≡ length vs = cc in
-          let y : length vs ≡ length (i .steps) = Demand.shows-each (stopping w64) (actionsOf (i .steps)) vs c ∙ as-many (i .steps) in
+          let y : length vs ≡ length (i .steps) = Demand.shows-each (stopping w64) (actionsOf (i .steps)) vs c ∙ actions-length (i .steps) in
           let x : length (d .numbers) ≡ length vs = each-as-many (d .each) in
           let f : length (flat vs) ≤ length room = omega (arith, length-flat vs) in
           let a : (runTold r ≡ endedWith (length (d .numbers))) × (numbers ≡ sets room′ 0 (d .numbers)) = rw (runs-read (runOp w64) bytes ins room′ (i .steps) (i .end) (i .read), ran-suited (runOp w64) (i .steps) ins room′ (omega arith) (suits-tells (actionsOf (i .steps)) ins (i .suits)), d .ends) at g in
@@ -143,7 +143,7 @@ module _ (bytes : List ℕ) (lent : Bytes bytes) where
           let m : length vs ≡ k = cc in
           let d = refused-step-stops bytes lent steps end g vs r (c ∙ ap (refusedAt vs) (number-tells q r n)) in
           let y : length vs ≡ length (d .before) = Demand.shows-each (stopping w64) (d .before) vs (d .earlier) in
-          let x : length steps ≡ length (d .before) + suc (length (d .after)) = sym (as-many steps) ∙ ap length (d .parts) ∙ length-append (d .before) (d .step ∷ d .after) in
+          let x : length steps ≡ length (d .before) + suc (length (d .after)) = sym (actions-length steps) ∙ ap length (d .parts) ∙ length-append (d .before) (d .step ∷ d .after) in
           let f : length (flat vs) ≤ length room = omega (arith, length-flat vs) in
           let z : length (flat vs) ≡ k * 5 = omega (arith, length-flat vs) in
           record {

@@ -14,15 +14,11 @@ use Rattle.step.specs.declared.Outcome.the-variants.{Gives, Stops}
 use Rattle.step.specs.declared.Action.{Action}
 use Rattle.step.specs.declared.Action.the-variants.{Input, Does}
 use Rattle.panel.specs.Run.{at, Run, ended, stoppedAt, runStep, takes, runOn, runFrom}
-use Rattle.desk.specs.Check.{shownAt, Check, passed, refusedAt, checkStep, checkOn, checkFrom}
-use Rattle.desk.specs.Promise.{ValidAction, AllValid, none as no-step, next as and-step, Takes, Suits, Each, none, next, Ends, StepStops, stopping, StopsAfter}
+use Rattle.desk.specs.Check.{shownAt, Check, passed, refusedAt, shownBy, checkStep, checkOn, checkFrom}
+use Rattle.desk.specs.Promise.{ValidAction, AllValid, none as no-step, next as and-step, Takes, Suits, AllGood, nil, cons, Each, none, next, Ends, StepStops, stopping, StopsAfter}
 
 differ : {S : Type 0} {vs us : List S} {r : Refusal} → passed vs ≡ refusedAt us r → ⊥
 differ e = let z : _≡_ {A = ℕ} 0 1 = cc in omega arith
-
-data AllGood (P : Panel) : List (P .Shown) → Type 0 where
-  nil : AllGood P []
-  cons : {v : P .Shown} {vs : List (P .Shown)} → P .Good v → AllGood P vs → AllGood P (v ∷ vs)
 
 -- what one step shows is fair to its runs
 data StepFair (P : Panel) (shown : List (P .Shown)) (s : Action) : Answered (P .Shown) → Type 0 where
@@ -90,6 +86,22 @@ module _ (P : Panel) (L : Lawful P) where
           let a : shown ≡ vs = cc in
           let b : q ≡ r = cc in
           record { before = []; step = s; after = ss; parts = refl; earlier = ap passed a; stops = rw (← a, ← b) m }
+
+  good-from : (steps : List Action) (shown : List (P .Shown)) → AllGood P shown → AllValid P steps → AllGood P (shownBy (checkFrom P shown steps))
+  unfolding checkFrom
+  good-from [] shown ps f = ps
+  good-from (s ∷ ss) shown ps (and-step f₀ f₁) = go (good-from ss) (step-fair shown s ps f₀)
+    where
+      Rest : Type 0
+      Rest = (shown : List (P .Shown)) → AllGood P shown → AllValid P ss → AllGood P (shownBy (checkFrom P shown ss))
+
+      go : {a : Answered (P .Shown)} → Rest → StepFair P shown s a → AllGood P (shownBy (checkOn shown a (λ v. checkFrom P (shown ++ (v ∷ [])) ss)))
+      go rest (halts m) = ps
+      go rest (goes g p) = rest _ (more-good ps p) f₁
+
+  -- ---- every shown value is good
+  pub all-good : (steps : List Action) → AllValid P steps → AllGood P (shownBy (checkFrom P [] steps))
+  all-good steps f = good-from steps [] nil f
 
   -- ---- demand 3
 

@@ -4,11 +4,11 @@ use mathlib.Core.Bool.{Bool, true, false}
 use mathlib.Core.List.{List, [], _∷_, _++_, append-assoc}
 use Prim.Native.Nat.{ℕ, zero, suc, _+_, _*_, _≤_, _<_}
 use native.Mathlib.Omega.{arith}
-use borrow.Author.Tests.{ltb-true, ltb-false}
+use borrow.Author.Tests.{lt-ltb, ltb-true, ltb-false}
 use lib.Dec.{ltb}
 use lib.IntN.{ℤ, pos}
 use lib.ListN.{length, take, drop, getD, set, length-append, length-drop, List·getD-eq-default, List·getD-append}
-use lib.Seq.{sets, sets-eq, take-at, drop-at, drop-drop, drop-append-add}
+use lib.Seq.{sets, sets-eq, take-at, take-suc, take-length, drop-at, drop-drop, drop-append-add}
 use Rattle.whole.specs.Choice.{pick}
 use Rattle.whole.specs.Whole.{up}
 use Rattle.sign.specs.declared.Sign.{Sign}
@@ -16,7 +16,7 @@ use Rattle.sign.specs.declared.Sign.the-variants.{Top, Bottom, Negative, Zero, 
 use Rattle.sign.specs.Index.{indexOf}
 use Rattle.step.specs.declared.show.Shown.{Shown}
 use Rattle.step.specs.Show.{shown, zeroShown}
-use Rattle.desk.specs.Five.{fiveOf, flat, signAt, shownIn, lookedUp}
+use Rattle.desk.specs.Five.{fiveOf, flat, signAt, shownIn, lookedUp, shownFirst}
 
 pub sets-five : (l : List ℤ) (i : ℕ) (a b c d e : ℤ) → sets l i (a ∷ b ∷ c ∷ d ∷ e ∷ []) ≡ set (set (set (set (set l i a) (i + 1) b) (i + 2) c) (i + 3) d) (i + 4) e
 sets-five l i a b c d e =
@@ -59,6 +59,24 @@ found (v ∷ vs) rest (suc p) h =
     let e₃ : suc p * 5 + 3 ≡ suc (suc (suc (suc (suc (p * 5 + 3))))) = omega arith in
     let e₄ : suc p * 5 + 4 ≡ suc (suc (suc (suc (suc (p * 5 + 4))))) = omega arith in
     rw (e₁, e₂, e₃, e₄, e₀) (found vs rest p (omega arith))
+
+-- the first places of steps that were put are what they show
+first-found : (vs : List Shown) (rest : List ℤ) (k : ℕ) → k ≤ length vs → shownFirst (flat vs ++ rest) k ≡ take k vs
+unfolding shownFirst
+first-found vs rest zero h = refl
+first-found vs rest (suc k) h = rw (first-found vs rest k (omega arith), found vs rest k (omega arith)) (sym (take-suc vs k zeroShown (omega arith)))
+
+pub all-found : (vs : List Shown) (rest : List ℤ) → shownFirst (flat vs ++ rest) (length vs) ≡ vs
+all-found vs rest = first-found vs rest (length vs) (omega arith) ∙ take-length vs
+
+pub length-first : (l : List ℤ) (k : ℕ) → length (shownFirst l k) ≡ k
+unfolding shownFirst
+length-first l zero = refl
+length-first l (suc k) = omega (arith, length-append (shownFirst l k) (shownIn l k ∷ []), length-first l k)
+
+pub looked-in : (l : List ℤ) (k p : ℕ) → p < k → lookedUp l k p ≡ shownIn l p
+unfolding lookedUp
+looked-in l k p h = rw (lt-ltb p k h) refl
 
 -- looking up among as many places as were put is looking up what was shown
 pub looked : (vs : List Shown) (rest : List ℤ) (k p : ℕ) → length vs ≡ k → lookedUp (flat vs ++ rest) k p ≡ getD vs p zeroShown

@@ -19,6 +19,10 @@ pub data Check (S : Type 0) : Type 0 where
   passed : List S → Check S
   refusedAt : List S → Refusal → Check S
 
+abbrev pub shownBy : {S : Type 0} → Check S → List S
+shownBy (passed vs) = vs
+shownBy (refusedAt vs r) = vs
+
 unfoldable pub checkStep : (P : Panel) → List (P .Shown) → Action → Answered (P .Shown)
 checkStep P shown (Input l h) = shows (P .ofInput l h)
 checkStep P shown (Does o p q r) = P .show o (shownAt P shown p) (shownAt P shown q) (shownAt P shown r)

@@ -1,6 +1,6 @@
 -- What is shown of a step in five numbers: low, high, constant, modulus, and the sign's number in the Rust's order.
 use mathlib.Core.List.{List, [], _∷_, _++_}
-use Prim.Native.Nat.{ℕ, _+_, _*_}
+use Prim.Native.Nat.{ℕ, zero, suc, _+_, _*_}
 use lib.Dec.{ltb}
 use lib.IntN.{ℤ, pos}
 use lib.ListN.{getD}
@@ -39,3 +39,8 @@ shownIn l p =
 -- the same, among the first k places; 0 past them
 unfoldable pub lookedUp : List ℤ → (k p : ℕ) → Shown
 lookedUp l k p = pick (ltb p k) (shownIn l p) zeroShown
+
+-- what stands at the first k places
+unfoldable pub shownFirst : List ℤ → ℕ → List Shown
+shownFirst l zero = []
+shownFirst l (suc k) = shownFirst l k ++ (shownIn l k ∷ [])

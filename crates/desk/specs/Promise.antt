@@ -22,6 +22,11 @@ pub data AllValid (P : Panel) : List Action → Type 0 where
   none : AllValid P []
   next : {s : Action} {ss : List Action} → ValidAction P s → AllValid P ss → AllValid P (s ∷ ss)
 
+-- each shown value is good
+pub data AllGood (P : Panel) : List (P .Shown) → Type 0 where
+  nil : AllGood P []
+  cons : {v : P .Shown} {vs : List (P .Shown)} → P .Good v → AllGood P vs → AllGood P (v ∷ vs)
+
 -- the inputs are as many as the sheet's, each in its range
 abbrev pub Takes : Action → List ℤ → Type 0
 Takes (Input l h) [] = ⊥

@@ -8,7 +8,7 @@ use step::Action;
 use step::show::Shown;
 use step::show::ShownAnswer;
 ghost use mathlib.Core.Path.{_≡_};
-ghost use Prim.Native.Nat.{_+_, _*_, _<_, _≤_};
+ghost use Prim.Native.Nat.{_+_, _*_, _/_, _<_, _≤_};
 ghost use mathlib.Core.List.{[], _∷_};
 ghost use lib.IntN.{pos};
 ghost use lib.ListN.{length};
@@ -61,7 +61,7 @@ fn sign_at(n: u64) -> Sign
 
 // What step p showed, of the first k in the room; 0 past them.
 fn looked_up(room: &[i64], k: usize, p: usize) -> Shown
-    requires { ⌜ (k ≤ 256) × (k * 5 ≤ length (now room)) ⌝ }
+    requires { ⌜ k * 5 ≤ length (now room) ⌝ }
     ensures { λ r. ⌜ r ≡ lookedUp (now (room .entry)) k p ⌝ }
 {
     if k <= p {
@@ -87,6 +87,13 @@ fn looked_up(room: &[i64], k: usize, p: usize) -> Shown
         },
         sign,
     }
+}
+
+// What step p shows in a room that a check has filled; 0 past the last place.
+pub fn shown_at(room: &[i64], p: usize) -> Shown
+    ensures { λ r. ⌜ r ≡ lookedUp (now (room .entry)) (length (now (room .entry)) / 5) p ⌝ }
+{
+    looked_up(room, room.len() / 5, p)
 }
 
 // What a step shows after k steps, or its refusal.

@@ -12,4 +12,5 @@ pub mod Stepped
 pub mod Sheeted
 pub mod Answered
 pub mod Sound
+pub mod Places
 pub mod Claims

@@ -6,4 +6,5 @@ pub mod Codes
 pub mod Back
 pub mod Pairs
 pub mod Ends
+pub mod Width
 pub mod Claims

@@ -7,7 +7,8 @@ use Rattle.whole.specs.Divides.{gcd, lcm}
 use Rattle.text.specs.Ascii.{ascii}
 use Rattle.text.specs.Word.{coded, codeOf, firstCode, secondCode}
 use Rattle.ask.specs.Taken.{nameAfter, nextAfter, twoAfter}
-use Rattle.ask.specs.Number.{notUnderstood, ofTwo, numberSaid}
+use Rattle.say.specs.Texts.{notUnderstood}
+use Rattle.ask.specs.Number.{ofTwo, numberSaid}
 use Rattle.ask.proofs.Taking.{is-name, other-first, other-second}
 use Rattle.ask.proofs.number.say.Statement.{statement}
 use Rattle.ask.proofs.number.say.Tie as tie

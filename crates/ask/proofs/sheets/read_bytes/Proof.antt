@@ -1,7 +1,7 @@
 use mathlib.Core.Path.{sym, ap, _∙_}
 use Rattle.sheet.specs.Answer.{readTold}
 use Rattle.sheet.proofs.Answered.{enough-room}
-use Rattle.ask.proofs.Saying.{_and-then_}
+use Rattle.say.proofs.Saying.{_and-then_}
 use Rattle.ask.proofs.Sheeting.{read-room, read-said, read-refused}
 use borrow.Author.Needs.{needs}
 use Rattle.ask.proofs.sheets.read_bytes.Statement.{statement}

@@ -1,4 +1,4 @@
-use Rattle.ask.proofs.Saying.{_and-then_}
+use Rattle.say.proofs.Saying.{_and-then_}
 use Rattle.ask.proofs.Running.{ended-said, stopped-said, run-refused-at, run-refused}
 use borrow.Author.Needs.{needs}
 use Rattle.ask.proofs.sheets.run_inputs.Statement.{statement}

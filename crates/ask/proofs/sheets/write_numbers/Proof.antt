@@ -1,6 +1,6 @@
 use mathlib.Core.Path.{sym, ap, _∙_}
 use Rattle.sheet.specs.Answer.{writeTold}
-use Rattle.ask.proofs.Saying.{_and-then_}
+use Rattle.say.proofs.Saying.{_and-then_}
 use Rattle.ask.proofs.Sheeting.{write-room, write-said, write-refused-at, write-refused}
 use borrow.Author.Needs.{needs}
 use Rattle.ask.proofs.sheets.write_numbers.Statement.{statement}

@@ -1,0 +1,3 @@
+pub mod Said
+pub mod Names
+pub mod Texts
