@@ -19,3 +19,10 @@ fits? w z = (least w ≤? z) && (z ≤? greatest w)
 -- z itself, or the end of the width that z lies beyond
 unfoldable pub clamp : Width → ℤ → ℤ
 clamp w z = pick (z <? least w) (least w) (pick (greatest w <? z) (greatest w) z)
+
+-- the greatest magnitude of a product of 64 bits that fits, by the signs of the two
+unfoldable pub limitOf : ℤ → ℤ → ℕ
+limitOf x y =
+    pick (x <? pos 0)
+    (pick (y <? pos 0) 9223372036854775807 9223372036854775808)
+    (pick (y <? pos 0) 9223372036854775808 9223372036854775807)

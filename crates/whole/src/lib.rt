@@ -3,11 +3,11 @@
 ghost use mathlib.Core.Path.{_≡_};
 ghost use mathlib.Core.Bool.{Bool, true, false};
 ghost use Prim.Native.Nat.{ℕ, _*_};
-ghost use lib.Dec.{leb};
+ghost use lib.Dec.{leb, ltb};
 ghost use lib.IntN.{ℤ, pos, negsuc, negℤ, natAbs, _+ℤ_, _-ℤ_, _*ℤ_};
 ghost use mir.Syntax.{w64};
 ghost use Rattle.whole.specs.Whole.{up, minℤ, maxℤ, min4, max4};
-ghost use Rattle.whole.specs.Range.{fits?, clamp};
+ghost use Rattle.whole.specs.Range.{fits?, clamp, limitOf};
 ghost use Rattle.whole.specs.Divides as divides;
 ghost use Rattle.whole.specs.Exact.{exactly};
 
@@ -89,31 +89,51 @@ pub fn sub_fits(x: i64, y: i64) -> bool
     if y >= 0 { x >= MIN + y } else { x <= MAX + y }
 }
 
+// Whether a * b is beyond u64: one multiplication and its flag, once compiled.
+fn product_over(a: u64, b: u64) -> bool
+    ensures { λ r. ⌜ r ≡ ltb 18446744073709551615 (a * b) ⌝ }
+{
+    if b == 0 {
+        false
+    } else {
+        a > 18446744073709551615 / b
+    }
+}
+
 // Whether a * b is at most limit.
 fn product_within(a: u64, b: u64, limit: u64) -> bool
     ensures { λ r. ⌜ r ≡ leb (a * b) limit ⌝ }
 {
-    if b == 0 { true } else { a <= limit / b }
+    if product_over(a, b) {
+        false
+    } else {
+        a * b <= limit
+    }
+}
+
+// The greatest magnitude of a product that fits: |MIN| where the signs differ, else MAX.
+fn product_limit(x: i64, y: i64) -> u64
+    ensures { λ r. ⌜ r ≡ limitOf x y ⌝ }
+{
+    if x < 0 {
+        if y < 0 {
+            9223372036854775807
+        } else {
+            9223372036854775808
+        }
+    } else {
+        if y < 0 {
+            9223372036854775808
+        } else {
+            9223372036854775807
+        }
+    }
 }
 
 pub fn mul_fits(x: i64, y: i64) -> bool
     ensures { λ r. ⌜ r ≡ fits? w64 (x *ℤ y) ⌝ }
 {
-    let a = magnitude(x);
-    let b = magnitude(y);
-    if x < 0 {
-        if y < 0 {
-            product_within(a, b, 9223372036854775807)
-        } else {
-            product_within(a, b, 9223372036854775808)
-        }
-    } else {
-        if y < 0 {
-            product_within(a, b, 9223372036854775808)
-        } else {
-            product_within(a, b, 9223372036854775807)
-        }
-    }
+    product_within(magnitude(x), magnitude(y), product_limit(x, y))
 }
 
 // ---- the exact result, or that it doesn't fit
@@ -160,15 +180,14 @@ pub fn exact_mul(x: i64, y: i64) -> Exact
 
 // ---- the nearest number that fits
 
+// The second number is held to what the first leaves.
 pub fn saturating_add(x: i64, y: i64) -> i64
     ensures { λ r. ⌜ r ≡ clamp w64 (x +ℤ y) ⌝ }
 {
-    if add_fits(x, y) {
-        x + y
-    } else if y < 0 {
-        MIN
+    if x < 0 {
+        x + max_of(y, MIN - x)
     } else {
-        MAX
+        x + min_of(y, MAX - x)
     }
 }
 

@@ -1,5 +1,4 @@
 use borrow.Author.Needs.{needs}
-use Rattle.whole.proofs.Products.{over}
 use Rattle.congruence.proofs.Values.{singles-told, values}
 use Rattle.congruence.specs.Mended as mended
 use Rattle.congruence.proofs.mended.over.Statement.{statement}
