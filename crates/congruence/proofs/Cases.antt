@@ -102,6 +102,10 @@ module _ (t : TruthAnswer) (x y : CongruenceAnswer) where
   unfolding ported.onTruth
   on-false b p q = rw (p, q) refl
 
+  pub on-false-made : (b : Bool) (r : CongruenceAnswer) → t ≡ truths.Is b → b ≡ false → r ≡ y → r ≡ ported.onTruth t x y
+  unfolding ported.onTruth
+  on-false-made b r p q e = rw (p, q) e
+
 pub reduced-none : (c : ℤ) (m : Exact) → m ≡ exact.DoesNotFit → Refused DoesNotFit ≡ ported.reduced c m
 unfolding ported.reduced
 reduced-none c m p = rw p refl
@@ -186,4 +190,4 @@ module _ (z : ℤ) (m : ℕ) (r : Exact) (some : m ≡ 0 → ⊥) (h : r ≡ exa
       let n : 0 < m = pos-of-ne-zero some in
       omega ints
 
-pub ruleset cases = (gcd-none, gcd-none-2, gcd-some, abs-none, abs-some, made-none, made-none-2, made-some, held-some, held-none, held-none-2, indivisible-none, indivisible-none-2, indivisible-some, on-refused, on-true, on-false, reduced-none, reduced-some, subtract-some, subtract-none)
+pub ruleset cases = (gcd-none, gcd-none-2, gcd-some, abs-none, abs-some, made-none, made-none-2, made-some, held-some, held-none, held-none-2, indivisible-none, indivisible-none-2, indivisible-some, on-refused, on-true, on-false, on-false-made, reduced-none, reduced-some, subtract-some, subtract-none)

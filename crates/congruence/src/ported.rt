@@ -27,7 +27,8 @@ use whole::exact_sub;
 use whole::gcd;
 use whole::lcm;
 ghost use mathlib.Core.Path.{_≡_};
-ghost use Rattle.congruence.specs.Set.{cong};
+ghost use Rattle.congruence.specs.declared.CongruenceAnswer.the-variants.{Is};
+ghost use Rattle.congruence.specs.Set.{cong, bottom};
 ghost use Rattle.congruence.specs.Ported as spec;
 
 // ---- what the operations are made of
@@ -201,18 +202,29 @@ fn reduced(c: i64, m: Exact) -> CongruenceAnswer
     }
 }
 
-// Two classes: the left constant modulo the lcm, if they share a number.
+// The left constant modulo the lcm, unless the classes are apart. The lcm isn't worked out where they are.
+fn met_unless(apart: TruthAnswer, a: Congruence, b: Congruence) -> CongruenceAnswer
+    ensures { λ r. ⌜ r ≡ spec.onTruth apart (Is bottom) (spec.reduced (a .constant) (spec.lcmOf (a .modulus) (b .modulus))) ⌝ }
+{
+    match apart {
+        TruthAnswer::Refused(r) => CongruenceAnswer::Refused(r),
+        TruthAnswer::Is(yes) => {
+            if yes {
+                CongruenceAnswer::Is(Congruence::BOTTOM)
+            } else {
+                reduced(a.constant, lcm(a.modulus, b.modulus))
+            }
+        }
+    }
+}
+
+// Two classes: apart if the gcd doesn't divide the difference of the constants.
 fn met_classes(a: Congruence, b: Congruence) -> CongruenceAnswer
     ensures { λ r. ⌜ r ≡ spec.metClasses a b ⌝ }
 {
     let g = gcd(a.modulus, b.modulus);
     let d = abs_then(exact_sub(a.constant, b.constant));
-    let class = reduced(a.constant, lcm(a.modulus, b.modulus));
-    on_truth(
-        indivisible(d, g),
-        CongruenceAnswer::Is(Congruence::BOTTOM),
-        class,
-    )
+    met_unless(indivisible(d, g), a, b)
 }
 
 fn met(a: Congruence, b: Congruence) -> CongruenceAnswer

@@ -1,5 +1,4 @@
 use borrow.Author.Needs.{needs}
-use Rattle.whole.proofs.Fits.{fits}
 use Rattle.congruence.proofs.Calls.{calls}
 use Rattle.congruence.proofs.Values.{values}
 use Rattle.congruence.specs.Ported.{metClasses}
@@ -15,17 +14,11 @@ exact-sub-requires c κs = search needs
 abs-then-requires : tie.Need-abs-then-requires
 abs-then-requires c κs = search needs
 
-lcm-requires : tie.Need-lcm-requires
-lcm-requires c κs = search needs
-
-reduced-requires : tie.Need-reduced-requires
-reduced-requires c κs = search needs
-
 indivisible-requires : tie.Need-indivisible-requires
 indivisible-requires c κs = search needs
 
-on-truth-requires : tie.Need-on-truth-requires
-on-truth-requires c κs = search needs
+met-unless-requires : tie.Need-met-unless-requires
+met-unless-requires c κs = search needs
 
 returns : tie.Need-returns
 unfolding metClasses
@@ -38,8 +31,6 @@ met-classes-spec =
     gcd-requires
     exact-sub-requires
     abs-then-requires
-    lcm-requires
-    reduced-requires
     indivisible-requires
-    on-truth-requires
+    met-unless-requires
     returns)
