@@ -1,0 +1,40 @@
+use mir.Syntax.{w64}
+use mir.Facts.{toZ-ofZ}
+use Rattle.congruence.specs.Mended as mended
+use Rattle.export.proofs.Put.{spaced}
+use borrow.Author.Needs.{needs}
+use Rattle.export.proofs.spacings.tunisaypa_mended_congruence_meet.Statement.{statement}
+use Rattle.export.proofs.spacings.tunisaypa_mended_congruence_meet.Tie as tie
+
+modulo-requires : tie.Need-modulo-requires
+modulo-requires c κs = search needs
+
+modulo-requires-2 : tie.Need-modulo-requires-2
+modulo-requires-2 c κs = search needs
+
+meet-requires : tie.Need-meet-requires
+meet-requires c κs = search needs
+
+put-spacing-requires : tie.Need-put-spacing-requires
+put-spacing-requires c κs = search needs
+
+same-length : tie.Need-same-length
+same-length c = search needs
+
+returns : tie.Need-returns
+returns c =
+    let s = c .before .before .before .before .before .before in
+    let p = simp (toZ-ofZ (s .fits .c), toZ-ofZ (s .fits .m)) at (c .before .before .before .before .before .modulo .ensures) in
+    let q = simp (toZ-ofZ (s .fits .e), toZ-ofZ (s .fits .n)) at (c .before .before .before .before .modulo2 .ensures) in
+    spaced (mended.meet w64) (c .before .before .meet .ensures) p q (c .before .put-spacing .ensures)
+
+pub tunisaypa-mended-congruence-meet-spec : {M : Type 1} → statement M
+tunisaypa-mended-congruence-meet-spec =
+    tie.close
+    (tie.spec
+    modulo-requires
+    modulo-requires-2
+    meet-requires
+    put-spacing-requires
+    same-length
+    returns)
