@@ -16,7 +16,7 @@ use Rattle.whole.specs.Divides.{_∣ℤ_, gcd, lcm, Cong, floorRem}
 use Rattle.whole.proofs.Linear.{ints, abs}
 use Rattle.whole.proofs.Divides.{∣-trans, ∣-neg, zero-∣, ∣-≤}
 use Rattle.whole.proofs.CommonDivisor.{exact, gcd-left, lcm-left, lcm-right, lcm-least}
-use Rattle.whole.proofs.Congruence.{∣-natAbs, Cong-sym, Cong-trans, meet-needs, meet-at, meet-left, meet-right}
+use Rattle.whole.proofs.Congruence.{∣-natAbs, ∣-to-natAbs, Cong-sym, Cong-trans, meet-needs, meet-at, meet-left, meet-right}
 use Rattle.whole.proofs.Decides.{Decides, eqb-test, both, yes, is-true, is-false, weaken}
 use Rattle.whole.proofs.Floor.{floor-low, floor-high, floor-class, same-residue}
 use Rattle.congruence.specs.declared.Congruence.{Congruence}
@@ -27,10 +27,6 @@ use Rattle.congruence.proofs.Sets.{clash}
 
 -- ---- the test
 
-pub to-abs : {m : ℤ} (z : ℤ) → m ∣ℤ z → m ∣ℤ pos (natAbs z)
-to-abs (pos k) h = h
-to-abs (negsuc k) h = ∣-neg h
-
 pub alike-test : (m : ℕ) (x y : ℤ) → Decides (Cong m x y) (Cong m x y → ⊥) (alike? m x y)
 unfolding alike?
 alike-test m x y = weaken there apart (eqb-test (natAbs (x -ℤ y) % m) 0)
@@ -39,7 +35,7 @@ alike-test m x y = weaken there apart (eqb-test (natAbs (x -ℤ y) % m) 0)
     there e = ∣-natAbs (x -ℤ y) (record { by = pos (natAbs (x -ℤ y) / m); is = ap pos (let f = div-add-mod' (natAbs (x -ℤ y)) m in omega arith) })
 
     apart : natAbs (x -ℤ y) % m ≢ 0 → Cong m x y → ⊥
-    apart f h = f (let e = exact (natAbs (x -ℤ y)) m (to-abs (x -ℤ y) h) in omega (arith, div-add-mod' (natAbs (x -ℤ y)) m))
+    apart f h = f (let e = exact (natAbs (x -ℤ y)) m (∣-to-natAbs (x -ℤ y) h) in omega (arith, div-add-mod' (natAbs (x -ℤ y)) m))
 
 -- ---- what a number leaves
 

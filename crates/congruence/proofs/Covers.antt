@@ -18,6 +18,7 @@ use Rattle.whole.proofs.Decides.{eq-test, lt-test, both, either, branch, is-fal
 use Rattle.whole.proofs.Divide.{quot-rem, rem-small}
 use Rattle.whole.proofs.Divides.{∣-trans}
 use Rattle.whole.proofs.CommonDivisor.{gcd-left, gcd-right}
+use Rattle.whole.proofs.Floor.{to-abs}
 use Rattle.whole.proofs.Congruence.{Cong-sym, Cong-trans, Cong-+, Cong-neg, join-left, join-right}
 use Rattle.congruence.specs.declared.Congruence.{Congruence}
 use Rattle.congruence.specs.declared.CongruenceAnswer.{CongruenceAnswer}
@@ -29,7 +30,7 @@ use Rattle.congruence.specs.Ported.{gcdOf, normalize, made, held, assert
 use Rattle.congruence.proofs.Cases.{found-is}
 use Rattle.congruence.proofs.Sets.{by, bottom-test, all, single-is}
 use Rattle.congruence.proofs.Arithmetic.{combined, D, formula-is, in-product}
-use Rattle.congruence.proofs.Quotients.{by-abs, quotient-class, divides-test}
+use Rattle.congruence.proofs.Quotients.{quotient-class, divides-test}
 
 refuses : {A : Type 0} (r : Refusal) (v : Congruence) → Refused r ≡ Is v → A
 refuses r v h = let i : _≡_ {A = ℕ} 0 1 = cc in absurd (omega arith)
@@ -40,7 +41,7 @@ same u v h = cc
 -- ---- normalize
 
 rem-class : (c m : ℤ) → Cong (natAbs m) (remZ c m) c
-rem-class c m = by-abs m (remZ c m -ℤ c) (record { by = negℤ (quotZ c m); is = move c (quotZ c m) m (remZ c m) (quot-rem c m) })
+rem-class c m = to-abs m (remZ c m -ℤ c) (record { by = negℤ (quotZ c m); is = move c (quotZ c m) m (remZ c m) (quot-rem c m) })
   where
     move : (x q m r : ℤ) → x ≡ q *ℤ m +ℤ r → r -ℤ x ≡ negℤ q *ℤ m
     move x q m r = rw (read x, read q, read m, read r) (simp wholes (omega arith))

@@ -16,13 +16,13 @@ use Rattle.whole.proofs.Decides.{Decides, eq-test, both, either, isn't, weaken,
 use Rattle.whole.proofs.Divides.{∣-trans, ∣-antisym, ∣-≤}
 use Rattle.whole.proofs.CommonDivisor.{gcd-left, gcd-right, gcd-n-0, gcd-0-n}
 use Rattle.whole.proofs.Ring.{natAbs-zero}
-use Rattle.whole.proofs.Congruence.{∣-at, ∣-natAbs, Cong-sym, Cong-trans, join-left, join-right, join-best, meet-needs, meet-at, meet-left, meet-right, meet-class}
+use Rattle.whole.proofs.Congruence.{∣-at, ∣-natAbs, ∣-to-natAbs, Cong-sym, Cong-trans, join-left, join-right, join-best, meet-needs, meet-at, meet-left, meet-right, meet-class}
 use Rattle.whole.proofs.Floor.{same-residue}
 use Rattle.congruence.specs.declared.Congruence.{Congruence}
 use Rattle.congruence.specs.Set.{cong, top, bottom, bottom?, _∈_, _⊆_, Canonical, single, nothing, reduced, Proper}
 use Rattle.congruence.specs.Numbers.{alike?}
 use Rattle.congruence.specs.Mended.{classOf, has?, apart?, inside?, joint, overlap, common, beside}
-use Rattle.congruence.proofs.Classes.{alike-test, to-abs, overlap-none, overlap-is, shared, shared-below, shared-left, shared-right, lcm-pos}
+use Rattle.congruence.proofs.Classes.{alike-test, overlap-none, overlap-is, shared, shared-below, shared-left, shared-right, lcm-pos}
 use Rattle.congruence.proofs.Sets.{clash, by, bottom-test, none, own, equal-at-0, single-is, canonical-modulus, bottom-proper}
 use Rattle.congruence.proofs.Results.{class-in, class-out, class-over, class-proper}
 
@@ -77,7 +77,7 @@ module _ (a b : Congruence) where
     where
       there : (a ≡ bottom) ⊎ ((b ≢ bottom) × (Cong n c e × Cong n (a .modulus) (pos 0))) → a ⊆ b
       there (inl i) x h = absurd (none x (subst (λ t. x ∈ t) i h))
-      there (inr p) x h = makes (is-false (bottom-test b) (p .0)) (p .1 .0) (to-abs (a .modulus) (∣-at (a .modulus) (less-0 (a .modulus)) (p .1 .1))) x h
+      there (inr p) x h = makes (is-false (bottom-test b) (p .0)) (p .1 .0) (∣-to-natAbs (a .modulus) (∣-at (a .modulus) (less-0 (a .modulus)) (p .1 .1))) x h
 
       apart : (a ≢ bottom) × ((b ≡ bottom) ⊎ ((Cong n c e → ⊥) ⊎ (Cong n (a .modulus) (pos 0) → ⊥))) → a ⊆ b → ⊥
       apart (na, inl i) f = let h = is-false (bottom-test a) na in none c (subst (λ t. c ∈ t) i (f c (own a h)))

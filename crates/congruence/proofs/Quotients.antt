@@ -17,6 +17,7 @@ use Rattle.whole.proofs.Decides.{Decides, eq-test, both, branch, is-true, yes, 
 use Rattle.whole.proofs.Divide.{quot-rem, natAbs-quot, fits-quot-above}
 use Rattle.whole.proofs.Divides.{∣-trans, ∣-+, ∣-of-rem, rem-of-∣}
 use Rattle.whole.proofs.Congruence.{∣-at}
+use Rattle.whole.proofs.Floor.{to-abs}
 use Rattle.congruence.specs.declared.Congruence.{Congruence}
 use Rattle.congruence.specs.Set.{cong, bottom, _∈_, Canonical, single, nothing, reduced, Proper}
 use Rattle.congruence.specs.Numbers.{absThen, divides?}
@@ -32,10 +33,6 @@ pub of-abs : (m z : ℤ) → pos (natAbs m) ∣ℤ z → m ∣ℤ z
 of-abs (pos k) z h = h
 of-abs (negsuc k) z h = ∣-trans (record { by = negsuc 0; is = omega (ints, prod (negsuc 0) (negsuc k)) }) h
 
-pub by-abs : (m z : ℤ) → m ∣ℤ z → pos (natAbs m) ∣ℤ z
-by-abs (pos k) z h = h
-by-abs (negsuc k) z h = ∣-trans (record { by = negsuc 0; is = omega (ints, prod (negsuc 0) (pos (suc k))) }) h
-
 -- ---- exact quotients
 
 exact-quot : (x d : ℤ) → remZ x d ≡ pos 0 → x ≡ quotZ x d *ℤ d
@@ -46,7 +43,7 @@ exact-quot x d e = quot-rem x d ∙ (ap (λ t. quotZ x d *ℤ d +ℤ t) e ∙ no
 
 -- where d divides c and m, the quotients of the numbers c + m·k are the numbers c/d + (m/d)·k
 pub quotient-class : (x c m d : ℤ) → d ≢ pos 0 → remZ c d ≡ pos 0 → remZ m d ≡ pos 0 → Cong (natAbs m) x c → Cong (natAbs (quotZ m d)) (quotZ x d) (quotZ c d)
-quotient-class x c m d f hc hm h = by-abs (quotZ m d) (quotZ x d -ℤ quotZ c d) (record {
+quotient-class x c m d f hc hm h = to-abs (quotZ m d) (quotZ x d -ℤ quotZ c d) (record {
   by = k .by;
   is = *ℤ-cancel-r (quotZ x d -ℤ quotZ c d) (k .by *ℤ quotZ m d) d f
       (-ℤ-*ℤ (quotZ x d) (quotZ c d) d ∙ (sym (ap₂ _-ℤ_ (exact-quot x d hx) (exact-quot c d hc)) ∙ (k .is ∙ (ap (λ t. k .by *ℤ t) (exact-quot m d hm) ∙ group (k .by) (quotZ m d) d))));

@@ -16,6 +16,7 @@ use Rattle.whole.specs.Whole.{up}
 use Rattle.whole.proofs.Linear.{ints}
 use Rattle.whole.proofs.Fits.{low, high}
 use Rattle.whole.proofs.Decides.{branch, eq-test, le-test, both, yes, is-true}
+use Rattle.sign.proofs.Laws.{and-both}
 use Rattle.interval.proofs.Rem.{proper}
 use Rattle.sheet.specs.Operator.{rows, fieldsOf}
 use Rattle.sheet.specs.Step.{Step}
@@ -93,15 +94,11 @@ takes-means (Input l h) [] e = let z : _≡_ {A = ℕ} 0 1 = cc in absurd (omega
 takes-means (Input l h) (x ∷ ins) e = yes (both (le-test l x) (le-test x h)) e
 takes-means (Does o p q r) ins e = tt
 
-both-true : (a b : Bool) → (a && b) ≡ true → (a ≡ true) × (b ≡ true)
-both-true true b e = (refl, e)
-both-true false b e = let z : _≡_ {A = ℕ} 0 1 = cc in absurd (omega arith)
-
 pub suits-means : (ss : List Action) (ins : List ℤ) → suits? ss ins ≡ true → Suits ss ins
 unfolding suits?
 suits-means [] [] e = tt
 suits-means [] (x ∷ ins) e = let z : _≡_ {A = ℕ} 0 1 = cc in absurd (omega arith)
-suits-means (s ∷ ss) ins e = let t = both-true (taken? s ins) (suits? ss (drop (takes s) ins)) e in (takes-means s ins (t .0), suits-means ss (drop (takes s) ins) (t .1))
+suits-means (s ∷ ss) ins e = let t = and-both (taken? s ins) (suits? ss (drop (takes s) ins)) e in (takes-means s ins (t .0), suits-means ss (drop (takes s) ins) (t .1))
 
 takes-tells : (s : Action) (ins : List ℤ) → Takes s ins → taken? s ins ≡ true
 unfolding taken?

@@ -10,6 +10,7 @@ use lib.IntN.{ℤ, pos, negsuc, negℤ, _+ℤ_, _*ℤ_}
 use lib.Signed.{_<ℤ_}
 use Rattle.whole.specs.Choice.{pick}
 use Rattle.whole.proofs.Decides.{Decides, holds, fails}
+use Rattle.whole.proofs.Flags.{or-yes}
 use Rattle.whole.proofs.Linear.{ints, sum as sum-parts, neg as neg-parts}
 use Rattle.sign.specs.declared.Sign.{Sign}
 use Rattle.sign.specs.Set.{Side, negative, nought, positive, sideOf, _has_, _∈_}
@@ -93,9 +94,6 @@ pub or-right : (a b : Bool) → b ≡ true → (a || b) ≡ true
 or-right true b h = refl
 or-right false b h = h
 
-or-left : (a b : Bool) → a ≡ true → (a || b) ≡ true
-or-left a b h = rw h refl
-
 pub some-found : (f : Side → Bool) → some f ≡ true → Found f
 some-found f h = elim (or-elim (f negative) (f nought || f positive) h) [
   | inl k ↦ record { side = negative; passes = k }
@@ -106,8 +104,8 @@ some-found f h = elim (or-elim (f negative) (f nought || f positive) h) [
 ]
 
 pub some-of : (f : Side → Bool) (d : Side) → f d ≡ true → some f ≡ true
-some-of f negative h = or-left (f negative) (f nought || f positive) h
-some-of f nought h = or-right (f negative) (f nought || f positive) (or-left (f nought) (f positive) h)
+some-of f negative h = or-yes (f negative) (f nought || f positive) h
+some-of f nought h = or-right (f negative) (f nought || f positive) (or-yes (f nought) (f positive) h)
 some-of f positive h = or-right (f negative) (f nought || f positive) (or-right (f nought) (f positive) h)
 
 pub each-at : (f : Side → Bool) → each f ≡ true → (d : Side) → f d ≡ true

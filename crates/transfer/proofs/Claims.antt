@@ -37,17 +37,6 @@ use Rattle.transfer.specs.Spacings as spacing
 use Rattle.transfer.proofs.Numbered.{Operator, operator, add, sub, mul, div, rem, equal, and, or, less, greater, atMost, atLeast, inverse, same, none, far, own}
 use Rattle.transfer.proofs.Owned as owned
 
--- two interval answers of which one thing is told are one (those on congruences are fixed as they stand)
-pub told-fixes : (r s : IntervalAnswer) → told r ≡ told s → r ≡ s
-told-fixes (ranges.Is u) (ranges.Is v) e = ap ranges.Is (ap value e)
-  where
-    value : Answer Interval → Interval
-    value (is x) = x
-    value (refused n) = u
-told-fixes (ranges.Is u) (ranges.Refused r) e = let z : _≡_ {A = ℕ} 0 1 = cc in absurd (omega arith)
-told-fixes (ranges.Refused r) (ranges.Is v) e = let z : _≡_ {A = ℕ} 0 1 = cc in absurd (omega arith)
-told-fixes (ranges.Refused r) (ranges.Refused s) e = ap ranges.Refused (number-tells r s (ap rangeNumber e))
-
 -- ---- what each operator is: 2 add, 3 sub, 4 mul, 5 div, 6 mod, 7 =, 8 and, 9 or, 10 <, 11 >, 12 <=, 13 >=, 14 not, 15 same
 
 abbrev binary : List ℤ

@@ -51,7 +51,7 @@ module _ (x m : ℤ) (nz : m ≢ pos 0) where
   floor-high = branch (lt-test (remZ x m) (pos 0)) (λ t. t <ℤ pos (natAbs m)) (λ h. omega (lin, abs m)) (λ h. omega (ints, rem-small x m nz, abs (remZ x m), abs m))
 
 -- a multiple of m is one of |m|
-to-abs : (m z : ℤ) → m ∣ℤ z → pos (natAbs m) ∣ℤ z
+pub to-abs : (m z : ℤ) → m ∣ℤ z → pos (natAbs m) ∣ℤ z
 to-abs (pos k) z h = h
 to-abs (negsuc k) z h = record { by = negℤ (h .by); is = turned z (h .by) (pos (suc k)) (h .is) }
   where
