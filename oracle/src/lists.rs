@@ -227,6 +227,7 @@ fn sheets() -> Vec<String> {
         "0400040102040300010E02",
     ];
     let mut out: Vec<String> = hex.iter().map(|h| format!("sheet read {h}")).collect();
+    out.extend(hex.iter().map(|h| format!("sheet check {h}")));
     out.extend(hex.iter().map(|h| format!("sheet run {h}")));
     out.extend(hex.iter().map(|h| format!("sheet run {h} 2")));
     let odd = [
@@ -253,7 +254,11 @@ fn sheets() -> Vec<String> {
         " write x",
         " write 0 0 0 0 ",
         " write 0 0 0 9223372036854775808",
-        " check 00",
+        " check",
+        " check 0",
+        " check 00 ",
+        " check 00 1",
+        " checks 00",
         " reads 00",
     ];
     out.extend(odd.iter().map(|w| format!("sheet{w}")));
@@ -312,6 +317,8 @@ fn longest() -> Vec<String> {
     vec![
         format!("sheet read {digits}"),
         format!("sheet read {digits}00"),
+        format!("sheet check {digits}"),
+        format!("sheet check {digits}00"),
         format!("sheet write{}", listed(&steps)),
         format!("sheet run {digits}{}", listed(&[i64::MIN; 256])),
         format!("sheet run {digits}{}", listed(&[i64::MIN; 255])),
@@ -319,7 +326,7 @@ fn longest() -> Vec<String> {
     ]
 }
 
-/// Every operator on corner numbers, two constants and the operator.
+/// Every operator run on corner numbers, and checked on a range between two of them beside a constant.
 fn numbered_steps() -> Vec<String> {
     let mut out = Vec::new();
     for operator in 2..=16 {
@@ -333,6 +340,9 @@ fn numbered_steps() -> Vec<String> {
                 let all = [[1, i64::MIN, i64::MAX, 0], [0, b, 0, 0], step].concat();
                 let bytes = crate::sheet::write(&all).unwrap();
                 out.push(format!("sheet run {} {a}", crate::words::hex(&bytes)));
+                let all = [[1, a.min(b), a.max(b), 0], [0, b, 0, 0], step].concat();
+                let bytes = crate::sheet::write(&all).unwrap();
+                out.push(format!("sheet check {}", crate::words::hex(&bytes)));
             }
         }
     }

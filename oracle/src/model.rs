@@ -131,6 +131,11 @@ impl Sign {
         NAMES.iter().find(|(_, s)| *s == self).unwrap().0
     }
 
+    /// Its number in the Rust's order.
+    pub fn index(self) -> i128 {
+        NAMES.iter().position(|(_, s)| *s == self).unwrap() as i128
+    }
+
     pub fn named(word: &[u8]) -> Option<Sign> {
         NAMES.iter().find(|(n, _)| n.as_bytes() == word).map(|(_, s)| *s)
     }

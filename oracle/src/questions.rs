@@ -634,7 +634,7 @@ fn spoiled(r: &mut Random, steps: &[Step]) -> Vec<i64> {
 fn sheet_question(r: &mut Random) -> String {
     let n = many(r);
     let steps = steps(r, n);
-    match r.below(10) {
+    match r.below(13) {
         0 => format!("sheet read {}", hex(&written(&steps))),
         1..=3 => format!("sheet read {}", hex(&broken(r, &steps))),
         4 => format!("sheet write{}", listed(&steps.concat())),
@@ -654,6 +654,8 @@ fn sheet_question(r: &mut Random) -> String {
             format!("sheet run {}{}", hex(&written(&steps)), listed(&given))
         }
         7 if r.once_in(4) => format!("sheet run {}{}", hex(&broken(r, &steps)), listed(&inputs(r, &steps))),
+        10 if r.once_in(4) => format!("sheet check {}", hex(&broken(r, &steps))),
+        10..=12 => format!("sheet check {}", hex(&written(&steps))),
         _ => format!("sheet run {}{}", hex(&written(&steps)), listed(&inputs(r, &steps))),
     }
 }

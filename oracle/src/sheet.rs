@@ -255,6 +255,13 @@ pub struct Shown {
     pub sign: Sign,
 }
 
+impl Shown {
+    /// Low, high, constant, modulus, and the sign's number.
+    fn numbers(&self) -> [i128; 5] {
+        [self.range.min, self.range.max, self.spacing.constant, self.spacing.modulus, self.sign.index()]
+    }
+}
+
 fn show_constant(n: i128) -> Shown {
     Shown {
         range: range(n, n),
@@ -467,6 +474,17 @@ pub fn sheet_answer(words: &[&[u8]]) -> Option<String> {
             Ok(written) => format!("written {}", hex(&written)),
             Err((Some(step), r)) => at(step, r),
             Err((None, r)) => refused(r),
+        }),
+        [b"check", word] => Some(match read(&bytes(word)?) {
+            Ok(steps) => {
+                let (shown, refused) = check(W64, &steps);
+                let numbers: Vec<i128> = shown.iter().flat_map(Shown::numbers).collect();
+                match refused {
+                    Some(r) => format!("refused at step {} by {r}{}", shown.len(), listed(&numbers)),
+                    None => format!("passed{}", listed(&numbers)),
+                }
+            }
+            Err((place, r)) => at(place, r),
         }),
         [b"run", word, rest @ ..] => {
             let (sheet, inputs) = (bytes(word)?, numbers(rest)?);

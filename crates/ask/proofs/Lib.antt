@@ -1,3 +1,4 @@
 pub mod Running
+pub mod Checking
 pub mod Sheeting
 pub mod Taking

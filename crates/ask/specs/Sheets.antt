@@ -1,4 +1,4 @@
--- What the family `sheet` says: the numbers of the steps, each after a space; hexadecimal bytes; or a refusal.
+-- What the family `sheet` says: numbers, each after a space; hexadecimal bytes; or a refusal.
 use Prim.Native.Nat.{ℕ}
 use mathlib.Core.List.{List, [], _∷_, _++_}
 use lib.Dec.{leb}
@@ -15,6 +15,10 @@ use Rattle.sheet.specs.Step.{Step}
 use Rattle.sheet.specs.Sheet.{flat}
 use Rattle.step.specs.Run.{runOp}
 use Rattle.panel.specs.Run.{Run, ended, stoppedAt, actionsOf, suits?, runSheet}
+use Rattle.step.specs.declared.show.Shown.{Shown}
+use Rattle.step.specs.Stopping.{stopping}
+use Rattle.desk.specs.Check.{Check, passed, refusedAt as refusedAtStep, checkSheet}
+use Rattle.desk.specs.Five.{flat as fives}
 use Rattle.sheet.specs.Answer.{Told, done, refusedAt, refusedBy, Plan, fill, stop}
 
 abbrev pub refusedText : Told → List (List ℕ)
@@ -39,3 +43,12 @@ ranSaid (stoppedAt ns r) = ascii "stopped at " ∷ (placeText (length ns) (numbe
 abbrev pub runSaid : Got (List Step) → List ℤ → List (List ℕ)
 runSaid (got xs end) ins = pick (suits? (actionsOf xs) ins) (ranSaid (runSheet (runOp w64) ins xs)) (refusedText (refusedBy 15))
 runSaid (refused r p) ins = refusedText (refusedAt r p)
+
+-- a check's numbers, five a step: those of all steps, or those before the one that is refused
+abbrev pub checkedSaid : Check Shown → List (List ℕ)
+checkedSaid (passed vs) = ascii "passed" ∷ spaced (fives vs)
+checkedSaid (refusedAtStep vs r) = ascii "refused at step " ∷ (placeText (length vs) (numberOf r) ++ spaced (fives vs))
+
+abbrev pub checkSaid : Got (List Step) → List (List ℕ)
+checkSaid (got xs end) = checkedSaid (checkSheet (stopping w64) xs)
+checkSaid (refused r p) = refusedText (refusedAt r p)

@@ -2,14 +2,17 @@
 ghost use Rattle.sheet.specs.Sheet.{parse};
 ghost use Rattle.sheet.specs.Answer.{writing};
 ghost use Rattle.say.specs.Said.{Says};
-ghost use Rattle.ask.specs.Sheets.{readSaid, writeSaid, runSaid};
+ghost use Rattle.ask.specs.Sheets.{readSaid, writeSaid, runSaid, checkSaid};
 use crate::take::HexBytes;
 use crate::take::Many;
+use desk::CheckAnswer;
 use panel::RunAnswer;
 use sheet::ReadAnswer;
 use sheet::WriteAnswer;
 
 // The operations' names, as text::word has them.
+const CHECK: u64 = 0x636865636b;
+
 const READ: u64 = 0x72656164;
 
 const RUN: u64 = 0x72756e;
@@ -107,6 +110,40 @@ fn run(line: &[u8], at: usize, out: &mut [u8], made: usize) -> usize {
     }
 }
 
+// What checking the bytes answers: 1,280 numbers are room for any sheet.
+fn check_bytes(bytes: &[u8], out: &mut [u8], made: usize) -> usize
+    ensures { λ r. ⌜ Says (checkSaid (parse (now (bytes .entry)))) (now (out .entry)) made (now (out .exit)) r ⌝ }
+{
+    let mut room = [0i64; 1280];
+    match desk::check(bytes, &mut room) {
+        CheckAnswer::Passed(n) => {
+            let e = say::word(out, made, b"passed");
+            say::numbers(out, e, &room[0..n * 5])
+        }
+        CheckAnswer::RefusedAtStep(why, step) => {
+            let d = say::word(out, made, b"refused at step ");
+            let e = say::place_by(out, d, step, why);
+            say::numbers(out, e, &room[0..step * 5])
+        }
+        CheckAnswer::RefusedAt(why, place) => say::refused_at(out, made, place, why),
+        CheckAnswer::Refused(why) => say::refused(out, made, why),
+    }
+}
+
+fn check(line: &[u8], at: usize, out: &mut [u8], made: usize) -> usize {
+    let mut room = [0u8; 16384];
+    match crate::take::bytes(line, at, &mut room) {
+        HexBytes::Are(n, next) => {
+            if next == line.len() {
+                check_bytes(&room[0..n], out, made)
+            } else {
+                say::not_understood(out, made)
+            }
+        }
+        HexBytes::Not => say::not_understood(out, made),
+    }
+}
+
 // The answer to what stands after the family's name.
 pub fn say(line: &[u8], at: usize, out: &mut [u8], made: usize) -> usize {
     let op = crate::take::name(line, at);
@@ -115,6 +152,7 @@ pub fn say(line: &[u8], at: usize, out: &mut [u8], made: usize) -> usize {
     let next = op.next;
     match second {
         SHORT => match first {
+            CHECK => check(line, next, out, made),
             READ => read(line, next, out, made),
             RUN => run(line, next, out, made),
             WRITE => write(line, next, out, made),

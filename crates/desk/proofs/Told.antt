@@ -1,10 +1,10 @@
 -- What checking a sheet into room for 256 steps tells of the sheet, by its answer.
-use Prim.Native.Nat.{ℕ, suc, _+_, _*_, _≤_}
+use Prim.Native.Nat.{ℕ, suc, _+_, _-_, _*_, _≤_}
 use mathlib.Core.Path.{_≡_, refl, sym, ap, _∙_}
 use mathlib.Core.List.{List, [], _∷_, _++_}
 use native.Mathlib.Omega.{arith}
 use lib.IntN.{ℤ}
-use lib.ListN.{length, drop, length-append}
+use lib.ListN.{length, take, drop, length-append}
 use lib.Seq.{sets, sets-eq}
 use mir.Syntax.{w64}
 use borrow.Author.Tests.{le-leb}
@@ -14,7 +14,7 @@ use Rattle.refusal.proofs.Claims.{number-tells}
 use Rattle.sheet.specs.Got.{Got, got, refused}
 use Rattle.sheet.specs.Step.{Step}
 use Rattle.sheet.specs.Sheet.{parse}
-use Rattle.sheet.proofs.Answered.{parse-few}
+use Rattle.sheet.proofs.Answered.{parse-few, stored-first}
 use Rattle.step.specs.Panel.{Panel}
 use Rattle.step.specs.Range.{Answered, shows, declines}
 use Rattle.step.specs.declared.Action.{Action}
@@ -45,12 +45,13 @@ check-few P shown (s ∷ ss) = by-answer (checkStep P shown s) (λ v. check-few 
 pub checked-few : (s : List ℕ) (steps : List Step) (end : ℕ) → parse s ≡ got steps end → length (shownBy (checkSheet (stopping w64) steps)) ≤ 256
 checked-few s steps end e = omega (arith, check-few (stopping w64) [] (actionsOf steps), actions-length steps, parse-few s steps end e)
 
--- the check of the sheet that was read, of which n steps are shown
-pub record CheckedTo (s : List ℕ) (check : Check Shown) (n : ℕ) : Type 0 where
+-- the check of the sheet that was read, of which n steps are shown, five numbers each in the room
+pub record CheckedTo (s : List ℕ) (left : List ℤ) (check : Check Shown) (n : ℕ) : Type 0 where
   pub steps : List Step
   pub end : ℕ
   pub parsed : parse s ≡ got steps end
   pub checked : checkSheet (stopping w64) steps ≡ check
+  pub stored : take (n * 5 - 0) left ≡ flat (shownBy check)
   pub few : n ≤ 256
 
 data Tells (s : List ℕ) : Result → Type 0 where
@@ -71,20 +72,27 @@ stands room vs n c h =
     let e : sets room 0 (flat vs) ≡ flat vs ++ drop (0 + length (flat vs)) room = sets-eq (flat vs) room 0 (omega (arith, length-flat vs)) in
     rw (← c, e) (sym (all-found vs (drop (0 + length (flat vs)) room)))
 
+-- and so do their numbers; the part from 0 on is as code cuts it
+numbers-stand : (room : List ℤ) (vs : List Shown) (n : ℕ) → length vs ≡ n → length vs * 5 ≤ length room → take (n * 5 - 0) (sets room 0 (flat vs)) ≡ flat (shownFirst (sets room 0 (flat vs)) n)
+numbers-stand room vs n c h =
+    let d : n * 5 - 0 ≡ length (flat vs) = omega (arith, c, length-flat vs) in
+    let e : take (n * 5 - 0) (sets room 0 (flat vs)) ≡ flat vs = rw d (stored-first room (flat vs) (omega (arith, length-flat vs))) in
+    e ∙ ap flat (stands room vs n c h)
+
 -- by what was answered
-passed-of : {s : List ℕ} (res : Result) (room left : List ℤ) → Tells s res → length room ≡ 1280 → left ≡ sets room 0 (res .numbers) → (n : ℕ) → res .told ≡ passedWith n → CheckedTo s (passed (shownFirst left n)) n
+passed-of : {s : List ℕ} (res : Result) (room left : List ℤ) → Tells s res → length room ≡ 1280 → left ≡ sets room 0 (res .numbers) → (n : ℕ) → res .told ≡ passedWith n → CheckedTo s left (passed (shownFirst left n)) n
 passed-of _ room left (checks xs p (passed vs) e c h) l f n q =
     let k : length vs ≡ n = cc in
-    record { steps = xs; end = p; parsed = e; checked = c ∙ rw f (ap passed (stands room vs n k (omega arith))); few = omega (arith, k, h) }
+    record { steps = xs; end = p; parsed = e; checked = c ∙ rw f (ap passed (stands room vs n k (omega arith))); stored = rw f (numbers-stand room vs n k (omega arith)); few = omega (arith, k, h) }
 passed-of _ room left (checks xs p (refusedAt vs r) e c h) l f n q = let z : _≡_ {A = ℕ} 0 1 = cc in absurd (omega arith)
 passed-of _ room left (unread m p e) l f n q = let z : _≡_ {A = ℕ} 0 1 = cc in absurd (omega arith)
 
-refused-of : {s : List ℕ} (res : Result) (room left : List ℤ) → Tells s res → length room ≡ 1280 → left ≡ sets room 0 (res .numbers) → (n : ℕ) (why : Refusal) → res .told ≡ atStep n (numberOf why) → CheckedTo s (refusedAt (shownFirst left n) why) n
+refused-of : {s : List ℕ} (res : Result) (room left : List ℤ) → Tells s res → length room ≡ 1280 → left ≡ sets room 0 (res .numbers) → (n : ℕ) (why : Refusal) → res .told ≡ atStep n (numberOf why) → CheckedTo s left (refusedAt (shownFirst left n) why) n
 refused-of _ room left (checks xs p (passed vs) e c h) l f n why q = let z : _≡_ {A = ℕ} 0 1 = cc in absurd (omega arith)
 refused-of _ room left (checks xs p (refusedAt vs r) e c h) l f n why q =
     let k : length vs ≡ n = cc in
     let b : numberOf r ≡ numberOf why = cc in
-    record { steps = xs; end = p; parsed = e; checked = c ∙ rw (f, ← number-tells r why b) (ap (λ ws. refusedAt ws r) (stands room vs n k (omega arith))); few = omega (arith, k, h) }
+    record { steps = xs; end = p; parsed = e; checked = c ∙ rw (f, ← number-tells r why b) (ap (λ ws. refusedAt ws r) (stands room vs n k (omega arith))); stored = rw f (numbers-stand room vs n k (omega arith)); few = omega (arith, k, h) }
 refused-of _ room left (unread m p e) l f n why q = let z : _≡_ {A = ℕ} 0 1 = cc in absurd (omega arith)
 
 unread-of : {s : List ℕ} (res : Result) → Tells s res → (m q : ℕ) → res .told ≡ atByte m q → parse s ≡ refused m q
@@ -102,10 +110,10 @@ never-of _ (unread n p e) m f = let z : _≡_ {A = ℕ} 0 1 = cc in omega arith
 
 -- of what the code answered
 module _ (s : List ℕ) (room left : List ℤ) (a : CheckAnswer) (t : checkTold a ≡ checking w64 s room .told) (e : left ≡ sets room 0 (checking w64 s room .numbers)) (l : length room ≡ 1280) where
-  pub passed-check : (n : ℕ) → a ≡ Passed n → CheckedTo s (passed (shownFirst left n)) n
+  pub passed-check : (n : ℕ) → a ≡ Passed n → CheckedTo s left (passed (shownFirst left n)) n
   passed-check n q = passed-of _ room left (tells s room l) l e n (sym t ∙ ap checkTold q)
 
-  pub refused-check : (why : Refusal) (n : ℕ) → a ≡ RefusedAtStep why n → CheckedTo s (refusedAt (shownFirst left n) why) n
+  pub refused-check : (why : Refusal) (n : ℕ) → a ≡ RefusedAtStep why n → CheckedTo s left (refusedAt (shownFirst left n) why) n
   refused-check why n q = refused-of _ room left (tells s room l) l e n why (sym t ∙ ap checkTold q)
 
   pub unread-check : (why : Refusal) (p : ℕ) → a ≡ RefusedAt why p → parse s ≡ refused (numberOf why) p

@@ -80,7 +80,7 @@ pub fn refused(out: &mut [u8], made: usize, why: Refusal) -> usize
 }
 
 // A place and a refusal's number.
-fn place_by(out: &mut [u8], made: usize, place: usize, why: Refusal) -> usize
+pub fn place_by(out: &mut [u8], made: usize, place: usize, why: Refusal) -> usize
     ensures { λ r. ⌜ Says (placeText place (numberOf why)) (now (out .entry)) made (now (out .exit)) r ⌝ }
 {
     let p = natural(out, made, place as u64);
