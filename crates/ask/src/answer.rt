@@ -30,7 +30,7 @@ pub enum Answer {
 }
 
 // Puts the answer's text after `made` bytes, and answers the place after it.
-pub fn say(out: &mut [u8], made: usize, a: Answer) -> usize
+pub(crate) fn say(out: &mut [u8], made: usize, a: Answer) -> usize
     ensures { λ r. ⌜ Says (answerSaid a) (now (out .entry)) made (now (out .exit)) r ⌝ }
 {
     match a {
@@ -47,56 +47,56 @@ pub fn say(out: &mut [u8], made: usize, a: Answer) -> usize
     }
 }
 
-pub fn sign_told(a: SignAnswer) -> Answer {
+pub(crate) fn sign_told(a: SignAnswer) -> Answer {
     match a {
         SignAnswer::Is(s) => Answer::Sign(s),
         SignAnswer::Refused(r) => Answer::Refused(r),
     }
 }
 
-pub fn interval_told(a: IntervalAnswer) -> Answer {
+pub(crate) fn interval_told(a: IntervalAnswer) -> Answer {
     match a {
         IntervalAnswer::Is(i) => Answer::Range(i),
         IntervalAnswer::Refused(r) => Answer::Refused(r),
     }
 }
 
-pub fn pair_told(a: PairAnswer) -> Answer {
+pub(crate) fn pair_told(a: PairAnswer) -> Answer {
     match a {
         PairAnswer::Is(p) => Answer::Ranges(p),
         PairAnswer::Refused(r) => Answer::Refused(r),
     }
 }
 
-pub fn single_told(a: Single) -> Answer {
+pub(crate) fn single_told(a: Single) -> Answer {
     match a {
         Single::One(n) => Answer::Number(n),
         Single::None => Answer::NoNumber,
     }
 }
 
-pub fn spacing_told(a: CongruenceAnswer) -> Answer {
+pub(crate) fn spacing_told(a: CongruenceAnswer) -> Answer {
     match a {
         CongruenceAnswer::Is(c) => Answer::Spacing(c),
         CongruenceAnswer::Refused(r) => Answer::Refused(r),
     }
 }
 
-pub fn truth_told(a: TruthAnswer) -> Answer {
+pub(crate) fn truth_told(a: TruthAnswer) -> Answer {
     match a {
         TruthAnswer::Is(t) => Answer::Truth(t),
         TruthAnswer::Refused(r) => Answer::Refused(r),
     }
 }
 
-pub fn order_told(a: OrderAnswer) -> Answer {
+pub(crate) fn order_told(a: OrderAnswer) -> Answer {
     match a {
         OrderAnswer::Is(o) => Answer::Order(o),
         OrderAnswer::Refused(r) => Answer::Refused(r),
     }
 }
 
-pub fn spacing_single(a: SingleAnswer) -> Answer {
+pub(crate) fn spacing_single(a: SingleAnswer) -> Answer {
     match a {
         SingleAnswer::Is(n) => Answer::Number(n),
         SingleAnswer::None => Answer::NoNumber,

@@ -81,7 +81,7 @@ fn paired(op: Op, c: i64, m: i64, d: i64, n: i64) -> Answer {
 }
 
 // The answer to what stands after the family's name.
-pub fn answer(line: &[u8], at: usize) -> Answer {
+pub(crate) fn answer(line: &[u8], at: usize) -> Answer {
     let w = crate::take::name(line, at);
     let next = w.next;
     let op = crate::names::named(w);
@@ -133,7 +133,7 @@ fn compared(op: Op, x: Congruence, y: Congruence) -> Answer {
 }
 
 // The answer to what stands after `mended congruence`.
-pub fn mended_answer(line: &[u8], at: usize) -> Answer {
+pub(crate) fn mended_answer(line: &[u8], at: usize) -> Answer {
     let w = crate::take::name(line, at);
     let next = w.next;
     let op = crate::names::named(w);

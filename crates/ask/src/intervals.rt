@@ -100,7 +100,7 @@ fn of_sign(signs: Signs) -> Answer {
 }
 
 // The answer to what stands after the family's name.
-pub fn answer(line: &[u8], at: usize) -> Answer {
+pub(crate) fn answer(line: &[u8], at: usize) -> Answer {
     let w = crate::take::name(line, at);
     let next = w.next;
     let op = crate::names::named(w);
@@ -141,7 +141,7 @@ fn mended_compared(op: Op, i: Interval, j: Interval) -> Answer {
 }
 
 // The answer to what stands after `mended interval`.
-pub fn mended_answer(line: &[u8], at: usize) -> Answer {
+pub(crate) fn mended_answer(line: &[u8], at: usize) -> Answer {
     let w = crate::take::name(line, at);
     let next = w.next;
     let op = crate::names::named(w);

@@ -50,7 +50,7 @@ fn say(line: &[u8], out: &mut [u8], made: usize) -> usize {
 }
 
 // Puts the answer to a line after `made` bytes, with a line end, and answers the place after it.
-pub fn answer(line: &[u8], out: &mut [u8], made: usize) -> usize {
+pub(crate) fn answer(line: &[u8], out: &mut [u8], made: usize) -> usize {
     if LONGEST < line.len() {
         return too_long(out, made);
     }
@@ -59,7 +59,7 @@ pub fn answer(line: &[u8], out: &mut [u8], made: usize) -> usize {
 }
 
 // The answer to a line that is too long.
-pub fn too_long(out: &mut [u8], made: usize) -> usize {
+pub(crate) fn too_long(out: &mut [u8], made: usize) -> usize {
     let e = say::not_understood(out, made);
     say::word(out, e, b"\n")
 }

@@ -3,7 +3,7 @@ use crate::answer::Answer;
 use crate::names::Domain;
 
 // The answer to what stands after the family's name.
-pub fn answer(line: &[u8], at: usize) -> Answer {
+pub(crate) fn answer(line: &[u8], at: usize) -> Answer {
     let w = crate::take::name(line, at);
     let next = w.next;
     match crate::names::of_domain(w) {

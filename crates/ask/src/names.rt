@@ -201,7 +201,7 @@ fn long(first: u64, second: u64) -> Op {
 }
 
 // The operation that a word names.
-pub fn named(w: Word) -> Op {
+pub(crate) fn named(w: Word) -> Op {
     let first = w.first;
     let second = w.second;
     match second {
@@ -226,7 +226,7 @@ const CONGRUEN: u64 = 0x636f6e677275656e;
 const CE: u64 = 0x6365;
 
 // The domain that a word names.
-pub fn of_domain(w: Word) -> Domain {
+pub(crate) fn of_domain(w: Word) -> Domain {
     let first = w.first;
     let second = w.second;
     match second {

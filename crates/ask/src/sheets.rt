@@ -145,7 +145,7 @@ fn check(line: &[u8], at: usize, out: &mut [u8], made: usize) -> usize {
 }
 
 // The answer to what stands after the family's name.
-pub fn say(line: &[u8], at: usize, out: &mut [u8], made: usize) -> usize {
+pub(crate) fn say(line: &[u8], at: usize, out: &mut [u8], made: usize) -> usize {
     let op = crate::take::name(line, at);
     let first = op.first;
     let second = op.second;

@@ -107,7 +107,7 @@ fn after_one(line: &[u8], a: Sign, at: usize) -> Signs {
     }
 }
 
-pub fn take_all(line: &[u8], at: usize) -> Signs {
+pub(crate) fn take_all(line: &[u8], at: usize) -> Signs {
     if at == line.len() {
         return Signs::None;
     }
@@ -198,7 +198,7 @@ fn of_interval(ends: Pair) -> Answer {
 }
 
 // The answer to what stands after the family's name.
-pub fn answer(line: &[u8], at: usize) -> Answer {
+pub(crate) fn answer(line: &[u8], at: usize) -> Answer {
     let w = crate::take::name(line, at);
     let next = w.next;
     let op = crate::names::named(w);
@@ -236,7 +236,7 @@ fn mended_one(op: Op, a: Sign) -> Answer {
 }
 
 // The answer to what stands after `mended sign`.
-pub fn mended_answer(line: &[u8], at: usize) -> Answer {
+pub(crate) fn mended_answer(line: &[u8], at: usize) -> Answer {
     let w = crate::take::name(line, at);
     let next = w.next;
     let op = crate::names::named(w);

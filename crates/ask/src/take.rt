@@ -9,7 +9,7 @@ use text::hex::Bytes;
 use text::word::Word;
 
 // A number, and the place after it.
-pub fn number(line: &[u8], at: usize) -> Got
+pub(crate) fn number(line: &[u8], at: usize) -> Got
     ensures { λ r. ⌜ r ≡ numberAfter (now (line .entry)) at ⌝ }
 {
     if line.len() <= at {
@@ -28,7 +28,7 @@ pub enum Single {
     Not,
 }
 
-pub fn one(line: &[u8], at: usize) -> Single
+pub(crate) fn one(line: &[u8], at: usize) -> Single
     ensures { λ r. ⌜ r ≡ oneAfter (now (line .entry)) at ⌝ }
 {
     let Got::Number(a, p) = number(line, at) else {
@@ -47,7 +47,7 @@ pub enum Pair {
     Not,
 }
 
-pub fn two(line: &[u8], at: usize) -> Pair
+pub(crate) fn two(line: &[u8], at: usize) -> Pair
     ensures { λ r. ⌜ r ≡ twoAfter (now (line .entry)) at ⌝ }
 {
     let Got::Number(a, p) = number(line, at) else {
@@ -69,7 +69,7 @@ pub enum Quad {
     Not,
 }
 
-pub fn four(line: &[u8], at: usize) -> Quad
+pub(crate) fn four(line: &[u8], at: usize) -> Quad
     ensures { λ r. ⌜ r ≡ fourAfter (now (line .entry)) at ⌝ }
 {
     let Got::Number(a, p) = number(line, at) else {
@@ -92,7 +92,7 @@ pub enum Many {
     Not,
 }
 
-pub fn numbers(line: &[u8], at: usize, room: &mut [i64]) -> Many
+pub(crate) fn numbers(line: &[u8], at: usize, room: &mut [i64]) -> Many
     ensures { λ r. ⌜ count r ≤ length (now (room .entry)) ⌝ }
 {
     let mut i = at;
@@ -137,7 +137,7 @@ fn counted(n: usize, a: i64, b: i64, c: i64, d: i64) -> Operands {
     }
 }
 
-pub fn up_to_four(line: &[u8], at: usize) -> Operands {
+pub(crate) fn up_to_four(line: &[u8], at: usize) -> Operands {
     let mut room = [0i64; 4];
     match numbers(line, at, &mut room) {
         Many::Are(n) => counted(n, room[0], room[1], room[2], room[3]),
@@ -153,7 +153,7 @@ pub enum HexBytes {
     Not,
 }
 
-pub fn bytes(line: &[u8], at: usize, room: &mut [u8]) -> HexBytes
+pub(crate) fn bytes(line: &[u8], at: usize, room: &mut [u8]) -> HexBytes
     ensures { λ r. ⌜ byteCount r ≤ length (now (room .entry)) ⌝ }
 {
     if line.len() <= at {
@@ -192,7 +192,7 @@ fn some_bytes(n: usize, next: usize) -> HexBytes
 }
 
 // A name, as text::word has it; both its numbers are 0 if there is none.
-pub fn name(line: &[u8], at: usize) -> Word
+pub(crate) fn name(line: &[u8], at: usize) -> Word
     ensures { λ r. ⌜ (r .next ≡ nextAfter (now (line .entry)) at) × (r .first ≡ firstCode (nameAfter (now (line .entry)) at)) × (r .second ≡ secondCode (nameAfter (now (line .entry)) at)) ⌝ }
 {
     if line.len() <= at {

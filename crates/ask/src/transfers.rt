@@ -100,7 +100,7 @@ fn question(line: &[u8], shape: Word) -> Asked {
 }
 
 // The answer to what stands after the family's name.
-pub fn answer(line: &[u8], at: usize) -> Answer {
+pub(crate) fn answer(line: &[u8], at: usize) -> Answer {
     let w = crate::take::name(line, at);
     let next = w.next;
     let q = question(line, crate::take::name(line, next));

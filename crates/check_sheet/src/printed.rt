@@ -13,12 +13,11 @@ use step::show::Shown;
 fn shown(out: &mut [u8], made: usize, v: Shown) -> usize
     ensures { λ r. ⌜ Says (shownText v) (now (out .entry)) made (now (out .exit)) r ⌝ }
 {
-    let sign = v.sign;
-    let a = say::interval(out, made, v.range);
+    let a = say::interval(out, made, v.range());
     let b = say::word(out, a, b" ");
-    let c = say::congruence(out, b, v.spacing);
+    let c = say::congruence(out, b, v.spacing());
     let d = say::word(out, c, b" ");
-    say::sign(out, d, sign)
+    say::sign(out, d, v.sign())
 }
 
 // The line of step k.
