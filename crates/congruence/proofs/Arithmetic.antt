@@ -26,7 +26,7 @@ use Rattle.congruence.specs.declared.Congruence.{Congruence}
 use Rattle.congruence.specs.Set.{cong, top, bottom, bottom?, _∈_, singles?, Proper}
 use Rattle.congruence.specs.Numbers.{gcdThen, formula}
 use Rattle.congruence.specs.Mended.{resultOf, exactOf, negative, sum, difference, over, product, beside}
-use Rattle.congruence.proofs.Cases.{found-is, found-fits, not-found}
+use Rattle.whole.proofs.Found.{found-is, found-fits, not-found}
 use Rattle.congruence.proofs.Sets.{clash, bottom-test, none, all, single-is, reduced-in, reduced-proper, canonical-modulus, canonical-positive, top-proper, bottom-proper}
 use Rattle.congruence.proofs.Results.{exact-in, exact-out, exact-over, exact-proper}
 use Rattle.congruence.proofs.Lattice.{steps, beside-3, beside-some, beside-proper, divisor-fits}

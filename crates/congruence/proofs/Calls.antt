@@ -9,7 +9,7 @@ use Rattle.congruence.specs.declared.Congruence.{Congruence}
 use Prim.Native.Nat.{ℕ}
 use lib.IntN.{ℤ, pos, negℤ, natAbs, _+ℤ_, _-ℤ_, _*ℤ_, +ℤ-idl}
 use lib.Signed.{quotZ, remZ}
-use mir.Syntax.{w64}
+use mir.Syntax.{Width, w64}
 use mir.Val.{SFits, toZ, ofZ}
 use mir.Facts.{toZ-ofZ}
 use Rattle.whole.specs.Divides.{gcd, floorRem}
@@ -36,22 +36,23 @@ module _ {A : Type 0} where
 pub is-read : (x : ℤ) → SFits w64 x → _≡_ {A = Exact} (exact.Is (toZ w64 (ofZ w64 x))) (exact.Is x)
 is-read x p = rw (toZ-ofZ p) refl
 
+module _ (u : Width) (x y : ℤ) (r : Exact) where
+  pub neg-call : r ≡ exactly u (negℤ (toZ w64 (ofZ w64 x))) → SFits w64 x → r ≡ exactly u (negℤ x)
+  neg-call = handed-1 (λ s. exactly u (negℤ s)) x r
+
+  pub add-call : r ≡ exactly u (toZ w64 (ofZ w64 x) +ℤ toZ w64 (ofZ w64 y)) → SFits w64 x → SFits w64 y → r ≡ exactly u (x +ℤ y)
+  add-call = handed (λ s t. exactly u (s +ℤ t)) x y r
+
+  pub sub-call : r ≡ exactly u (toZ w64 (ofZ w64 x) -ℤ toZ w64 (ofZ w64 y)) → SFits w64 x → SFits w64 y → r ≡ exactly u (x -ℤ y)
+  sub-call = handed (λ s t. exactly u (s -ℤ t)) x y r
+
+  pub mul-call : r ≡ exactly u (toZ w64 (ofZ w64 x) *ℤ toZ w64 (ofZ w64 y)) → SFits w64 x → SFits w64 y → r ≡ exactly u (x *ℤ y)
+  mul-call = handed (λ s t. exactly u (s *ℤ t)) x y r
+
+  pub quot-call : r ≡ exactly u (quotZ (toZ w64 (ofZ w64 x)) (toZ w64 (ofZ w64 y))) → SFits w64 x → SFits w64 y → r ≡ exactly u (quotZ x y)
+  quot-call = handed (λ s t. exactly u (quotZ s t)) x y r
+
 module _ (x y : ℤ) (r : Exact) where
-  pub neg-call : r ≡ exactly w64 (negℤ (toZ w64 (ofZ w64 x))) → SFits w64 x → r ≡ exactly w64 (negℤ x)
-  neg-call = handed-1 (λ s. exactly w64 (negℤ s)) x r
-
-  pub add-call : r ≡ exactly w64 (toZ w64 (ofZ w64 x) +ℤ toZ w64 (ofZ w64 y)) → SFits w64 x → SFits w64 y → r ≡ exactly w64 (x +ℤ y)
-  add-call = handed (λ s t. exactly w64 (s +ℤ t)) x y r
-
-  pub sub-call : r ≡ exactly w64 (toZ w64 (ofZ w64 x) -ℤ toZ w64 (ofZ w64 y)) → SFits w64 x → SFits w64 y → r ≡ exactly w64 (x -ℤ y)
-  sub-call = handed (λ s t. exactly w64 (s -ℤ t)) x y r
-
-  pub mul-call : r ≡ exactly w64 (toZ w64 (ofZ w64 x) *ℤ toZ w64 (ofZ w64 y)) → SFits w64 x → SFits w64 y → r ≡ exactly w64 (x *ℤ y)
-  mul-call = handed (λ s t. exactly w64 (s *ℤ t)) x y r
-
-  pub quot-call : r ≡ exactly w64 (quotZ (toZ w64 (ofZ w64 x)) (toZ w64 (ofZ w64 y))) → SFits w64 x → SFits w64 y → r ≡ exactly w64 (quotZ x y)
-  quot-call = handed (λ s t. exactly w64 (quotZ s t)) x y r
-
   pub gcd-call : r ≡ ported.gcdOf (toZ w64 (ofZ w64 x)) (toZ w64 (ofZ w64 y)) → SFits w64 x → SFits w64 y → r ≡ ported.gcdOf x y
   gcd-call = handed ported.gcdOf x y r
 
@@ -76,14 +77,14 @@ pub magnitude-call : (x : ℤ) (r : ℕ) → r ≡ natAbs (toZ w64 (ofZ w64 x)) 
 magnitude-call = handed-1 natAbs
 
 -- of results of other calls
-pub gcd-then-call : (x k y n r : Exact) → r ≡ gcdThen w64 k n → k ≡ x → n ≡ y → r ≡ gcdThen w64 x y
-gcd-then-call x k y n r h p q = rw (p, q) at h
+pub gcd-then-call : (u : Width) (x k y n r : Exact) → r ≡ gcdThen u k n → k ≡ x → n ≡ y → r ≡ gcdThen u x y
+gcd-then-call u x k y n r h p q = rw (p, q) at h
 
-pub abs-then-call : (x k r : Exact) → r ≡ absThen w64 k → k ≡ x → r ≡ absThen w64 x
-abs-then-call x k r h p = rw p at h
+pub abs-then-call : (u : Width) (x k r : Exact) → r ≡ absThen u k → k ≡ x → r ≡ absThen u x
+abs-then-call u x k r h p = rw p at h
 
-pub exact-of-call : (n k : ℕ) (r : Exact) → r ≡ exactly w64 (pos k) → k ≡ n → r ≡ exactly w64 (pos n)
-exact-of-call n k r h p = rw p at h
+pub exact-of-call : (u : Width) (n k : ℕ) (r : Exact) → r ≡ exactly u (pos k) → k ≡ n → r ≡ exactly u (pos n)
+exact-of-call u n k r h p = rw p at h
 
 pub held-call : (x y : ℤ) (r : CongruenceAnswer) → r ≡ ported.held (toZ w64 (ofZ w64 x)) (toZ w64 (ofZ w64 y)) → SFits w64 x → SFits w64 y → r ≡ ported.held x y
 held-call = handed ported.held
@@ -143,9 +144,9 @@ module _ {A : Type 0} (f : Congruence → Congruence → A) (a b : Congruence) w
       SFits w64 (a .constant) → SFits w64 (a .modulus) → SFits w64 (b .constant) → SFits w64 (b .modulus) → r ≡ f a b
   handed-all r h p q s t = simp (toZ-ofZ p, toZ-ofZ q, toZ-ofZ s, toZ-ofZ t) at h
 
-pub formula-call : (a b : Congruence) (r : Exact) → r ≡ formula w64 (cong (toZ w64 (ofZ w64 (a .constant))) (toZ w64 (ofZ w64 (a .modulus)))) (cong (toZ w64 (ofZ w64 (b .constant))) (toZ w64 (ofZ w64 (b .modulus)))) →
-    SFits w64 (a .constant) → SFits w64 (a .modulus) → SFits w64 (b .constant) → SFits w64 (b .modulus) → r ≡ formula w64 a b
-formula-call = handed-all (formula w64)
+pub formula-call : (u : Width) (a b : Congruence) (r : Exact) → r ≡ formula u (cong (toZ w64 (ofZ w64 (a .constant))) (toZ w64 (ofZ w64 (a .modulus)))) (cong (toZ w64 (ofZ w64 (b .constant))) (toZ w64 (ofZ w64 (b .modulus)))) →
+    SFits w64 (a .constant) → SFits w64 (a .modulus) → SFits w64 (b .constant) → SFits w64 (b .modulus) → r ≡ formula u a b
+formula-call u = handed-all (formula u)
 
 pub below-call : (a b : Congruence) (r : Bool) → r ≡ ported.below? (cong (toZ w64 (ofZ w64 (a .constant))) (toZ w64 (ofZ w64 (a .modulus)))) (cong (toZ w64 (ofZ w64 (b .constant))) (toZ w64 (ofZ w64 (b .modulus)))) →
     SFits w64 (a .constant) → SFits w64 (a .modulus) → SFits w64 (b .constant) → SFits w64 (b .modulus) → r ≡ ported.below? a b
@@ -161,24 +162,24 @@ gcd-u64-call x k y n r h p q = rw (p, q) at h
 pub result-call : (z k g n : Exact) (over o v : Congruence) → v ≡ mended.resultOf k n o → k ≡ z → n ≡ g → o ≡ over → v ≡ mended.resultOf z g over
 result-call z k g n over o v h p q s = rw (p, q, s) at h
 
-pub class-call : (z : ℤ) (m k : ℕ) (v : Congruence) → v ≡ mended.classOf w64 (toZ w64 (ofZ w64 z)) k → SFits w64 z → k ≡ m → v ≡ mended.classOf w64 z m
-class-call z m k v h p q = rw q at (simp (toZ-ofZ p) at h)
+pub class-call : (u : Width) (z : ℤ) (m k : ℕ) (v : Congruence) → v ≡ mended.classOf u (toZ w64 (ofZ w64 z)) k → SFits w64 z → k ≡ m → v ≡ mended.classOf u z m
+class-call u z m k v h p q = rw q at (simp (toZ-ofZ p) at h)
 
 pub only-of-call : (z k : Exact) (v : Congruence) → v ≡ mended.onlyOf k → k ≡ z → v ≡ mended.onlyOf z
 only-of-call z k v h p = rw p at h
 
-module _ (x y : ℤ) (m k : ℕ) (v : Congruence) where
-  pub sum-call : v ≡ mended.exactOf w64 (toZ w64 (ofZ w64 x) +ℤ toZ w64 (ofZ w64 y)) k → SFits w64 x → SFits w64 y → k ≡ m → v ≡ mended.exactOf w64 (x +ℤ y) m
+module _ (u : Width) (x y : ℤ) (m k : ℕ) (v : Congruence) where
+  pub sum-call : v ≡ mended.exactOf u (toZ w64 (ofZ w64 x) +ℤ toZ w64 (ofZ w64 y)) k → SFits w64 x → SFits w64 y → k ≡ m → v ≡ mended.exactOf u (x +ℤ y) m
   sum-call h p q e = rw e at (simp (toZ-ofZ p, toZ-ofZ q) at h)
 
-  pub difference-call : v ≡ mended.exactOf w64 (toZ w64 (ofZ w64 x) -ℤ toZ w64 (ofZ w64 y)) k → SFits w64 x → SFits w64 y → k ≡ m → v ≡ mended.exactOf w64 (x -ℤ y) m
+  pub difference-call : v ≡ mended.exactOf u (toZ w64 (ofZ w64 x) -ℤ toZ w64 (ofZ w64 y)) k → SFits w64 x → SFits w64 y → k ≡ m → v ≡ mended.exactOf u (x -ℤ y) m
   difference-call h p q e = rw e at (simp (toZ-ofZ p, toZ-ofZ q) at h)
 
-pub negative-call : (y : ℤ) (m k : ℕ) (v : Congruence) → v ≡ mended.exactOf w64 (pos 0 -ℤ toZ w64 (ofZ w64 y)) k → SFits w64 y → k ≡ m → v ≡ mended.exactOf w64 (negℤ y) m
-negative-call y m k v h p e = rw e at (simp (toZ-ofZ p, +ℤ-idl) at h)
+pub negative-call : (u : Width) (y : ℤ) (m k : ℕ) (v : Congruence) → v ≡ mended.exactOf u (pos 0 -ℤ toZ w64 (ofZ w64 y)) k → SFits w64 y → k ≡ m → v ≡ mended.exactOf u (negℤ y) m
+negative-call u y m k v h p e = rw e at (simp (toZ-ofZ p, +ℤ-idl) at h)
 
-pub by-number-call : (a : Congruence) (k : ℤ) (v : Congruence) → v ≡ mended.byNumber w64 a (toZ w64 (ofZ w64 k)) → SFits w64 k → v ≡ mended.byNumber w64 a k
-by-number-call a = handed-1 (mended.byNumber w64 a)
+pub by-number-call : (u : Width) (a : Congruence) (k : ℤ) (v : Congruence) → v ≡ mended.byNumber u a (toZ w64 (ofZ w64 k)) → SFits w64 k → v ≡ mended.byNumber u a k
+by-number-call u a = handed-1 (mended.byNumber u a)
 
 pub has-call : (a : Congruence) (k : ℤ) (r t : Bool) → r ≡ mended.has? a (toZ w64 (ofZ w64 k)) → SFits w64 k → r ≡ t → mended.has? a k ≡ t
 has-call a k r t h p q = sym (handed-1 (mended.has? a) k r h p) ∙ q
@@ -186,8 +187,8 @@ has-call a k r t h p q = sym (handed-1 (mended.has? a) k r h p) ∙ q
 pub alike-off : (x y : ℤ) (m n : ℕ) (r : Bool) → r ≡ alike? n (toZ w64 (ofZ w64 x)) (toZ w64 (ofZ w64 y)) → n ≡ m → SFits w64 x → SFits w64 y → not r ≡ not (alike? m x y)
 alike-off x y m n r h e p q = ap not (alike-call x y m n r h e p q)
 
-pub overlap-call : (a b : Congruence) (v : Congruence) → v ≡ mended.overlap w64 (cong (toZ w64 (ofZ w64 (a .constant))) (toZ w64 (ofZ w64 (a .modulus)))) (cong (toZ w64 (ofZ w64 (b .constant))) (toZ w64 (ofZ w64 (b .modulus)))) →
-    SFits w64 (a .constant) → SFits w64 (a .modulus) → SFits w64 (b .constant) → SFits w64 (b .modulus) → v ≡ mended.overlap w64 a b
-overlap-call = handed-all (mended.overlap w64)
+pub overlap-call : (u : Width) (a b : Congruence) (v : Congruence) → v ≡ mended.overlap u (cong (toZ w64 (ofZ w64 (a .constant))) (toZ w64 (ofZ w64 (a .modulus)))) (cong (toZ w64 (ofZ w64 (b .constant))) (toZ w64 (ofZ w64 (b .modulus)))) →
+    SFits w64 (a .constant) → SFits w64 (a .modulus) → SFits w64 (b .constant) → SFits w64 (b .modulus) → v ≡ mended.overlap u a b
+overlap-call u = handed-all (mended.overlap u)
 
 pub ruleset calls = (is-read, neg-call, add-call, sub-call, mul-call, quot-call, gcd-call, lcm-call, rem-call, floor-call, distance-call, alike-call, magnitude-call, gcd-then-call, abs-then-call, exact-of-call, held-call, normalize-call, only-call, rem-equal, leaves-is, leaves-not, leaves-told, leaves-off, leaves-on, made-call, asserted-call, indivisible-call, reduced-call, on-truth-call, is-value, formula-call, below-call, divided-by-call, gcd-u64-call, result-call, class-call, only-of-call, sum-call, difference-call, negative-call, by-number-call, alike-off)

@@ -8,9 +8,9 @@ use Prim.Native.Nat.{ℕ, _<_}
 use lib.Signed.{remZ, _<ℤ_}
 use borrow.Author.Tests.{ne-eqb}
 use Rattle.whole.specs.Choice.{pick}
-use Rattle.whole.specs.Range.{fits?}
 use Rattle.whole.proofs.Linear.{ints}
-use mir.Syntax.{Width, w64}
+use mir.Syntax.{Width}
+use Rattle.whole.proofs.Found.{found-is}
 use Rattle.whole.specs.Test.{_≟_}
 use Rattle.whole.specs.Divides.{gcd, floorRem}
 use Rattle.whole.specs.Exact.{exactly}
@@ -28,26 +28,26 @@ use Rattle.congruence.specs.Numbers.{gcdThen, absThen}
 use Rattle.congruence.specs.Mended as mended
 use Rattle.congruence.specs.Ported as ported
 
-module _ (x y : Exact) where
-  pub gcd-none : x ≡ exact.DoesNotFit → _≡_ {A = Exact} exact.DoesNotFit (gcdThen w64 x y)
+module _ (u : Width) (x y : Exact) where
+  pub gcd-none : x ≡ exact.DoesNotFit → _≡_ {A = Exact} exact.DoesNotFit (gcdThen u x y)
   unfolding gcdThen
   gcd-none p = rw p refl
 
-  pub gcd-none-2 : (a : ℤ) → x ≡ exact.Is a → y ≡ exact.DoesNotFit → _≡_ {A = Exact} exact.DoesNotFit (gcdThen w64 x y)
+  pub gcd-none-2 : (a : ℤ) → x ≡ exact.Is a → y ≡ exact.DoesNotFit → _≡_ {A = Exact} exact.DoesNotFit (gcdThen u x y)
   unfolding gcdThen
   gcd-none-2 a p q = rw (p, q) refl
 
-  pub gcd-some : (a b : ℤ) (r : Exact) → x ≡ exact.Is a → y ≡ exact.Is b → r ≡ exactly w64 (pos (gcd (natAbs a) (natAbs b))) → r ≡ gcdThen w64 x y
+  pub gcd-some : (a b : ℤ) (r : Exact) → x ≡ exact.Is a → y ≡ exact.Is b → r ≡ exactly u (pos (gcd (natAbs a) (natAbs b))) → r ≡ gcdThen u x y
   unfolding gcdThen
   gcd-some a b r p q h = rw (p, q) h
 
-pub abs-none : (x : Exact) → x ≡ exact.DoesNotFit → _≡_ {A = Exact} exact.DoesNotFit (absThen w64 x)
+pub abs-none : (u : Width) (x : Exact) → x ≡ exact.DoesNotFit → _≡_ {A = Exact} exact.DoesNotFit (absThen u x)
 unfolding absThen
-abs-none x p = rw p refl
+abs-none u x p = rw p refl
 
-pub abs-some : (x : Exact) (a : ℤ) (r : Exact) → x ≡ exact.Is a → r ≡ exactly w64 (pos (natAbs a)) → r ≡ absThen w64 x
+pub abs-some : (u : Width) (x : Exact) (a : ℤ) (r : Exact) → x ≡ exact.Is a → r ≡ exactly u (pos (natAbs a)) → r ≡ absThen u x
 unfolding absThen
-abs-some x a r p h = rw p h
+abs-some u x a r p h = rw p h
 
 -- ---- ported
 
@@ -150,43 +150,18 @@ only-some z k v p h = rw p h
 
 pub ruleset only-cases = (only-none, only-some)
 
--- a number that was asked for is the one that was found
-pub found-is : (w : Width) (z k : ℤ) → exactly w z ≡ exact.Is k → k ≡ z
-unfolding exactly
-found-is w z k h = go (fits? w z) h
-  where
-    go : (t : Bool) → pick t (exact.Is z) exact.DoesNotFit ≡ exact.Is k → k ≡ z
-    go true e = cc
-    go false e = let i : _≡_ {A = ℕ} 0 1 = cc in absurd (omega arith)
-
-pub found-fits : (w : Width) (z k : ℤ) → exactly w z ≡ exact.Is k → fits? w z ≡ true
-unfolding exactly
-found-fits w z k h = go (fits? w z) h
-  where
-    go : (t : Bool) → pick t (exact.Is z) exact.DoesNotFit ≡ exact.Is k → t ≡ true
-    go true e = refl
-    go false e = let i : _≡_ {A = ℕ} 0 1 = cc in absurd (omega arith)
-
-pub not-found : (w : Width) (z : ℤ) → exactly w z ≡ exact.DoesNotFit → fits? w z ≡ false
-unfolding exactly
-not-found w z h = go (fits? w z) h
-  where
-    go : (t : Bool) → pick t (exact.Is z) exact.DoesNotFit ≡ exact.DoesNotFit → t ≡ false
-    go true e = let i : _≡_ {A = ℕ} 0 1 = cc in absurd (omega arith)
-    go false e = refl
-
-module _ (z : ℤ) (m : ℕ) (r : Exact) (some : m ≡ 0 → ⊥) (h : r ≡ exactly w64 (pos m)) where
-  pub class-none : r ≡ exact.DoesNotFit → top ≡ mended.exactOf w64 z m
+module _ (u : Width) (z : ℤ) (m : ℕ) (r : Exact) (some : m ≡ 0 → ⊥) (h : r ≡ exactly u (pos m)) where
+  pub class-none : r ≡ exact.DoesNotFit → top ≡ mended.exactOf u z m
   unfolding mended.exactOf mended.classOf mended.resultOf
   class-none p = rw (ne-eqb m 0 some, sym h ∙ p) refl
 
-  pub class-some : (k : ℤ) (v : Congruence) → r ≡ exact.Is k → v ≡ cong (floorRem z k) k → v ≡ mended.exactOf w64 z m
+  pub class-some : (k : ℤ) (v : Congruence) → r ≡ exact.Is k → v ≡ cong (floorRem z k) k → v ≡ mended.exactOf u z m
   unfolding mended.exactOf mended.classOf mended.resultOf
   class-some k v p e = rw (ne-eqb m 0 some, sym h ∙ p) e
 
   pub above-zero : (k : ℤ) → r ≡ exact.Is k → pos 0 <ℤ k
   above-zero k p =
-      let e = found-is w64 (pos m) k (sym h ∙ p) in
+      let e = found-is u (pos m) k (sym h ∙ p) in
       let n : 0 < m = pos-of-ne-zero some in
       omega ints
 

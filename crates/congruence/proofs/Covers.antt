@@ -27,7 +27,7 @@ use Rattle.congruence.specs.Set.{cong, top, bottom?, _∈_, _⊆_, domai
 use Rattle.congruence.specs.Answer.{within2, noValue}
 use Rattle.congruence.specs.Numbers.{gcdThen, absThen, formula}
 use Rattle.congruence.specs.Ported.{gcdOf, normalize, made, held, asserted, joined, negated, added, addedTo, subtracted, multiplied, dividedBy, divided, only?}
-use Rattle.congruence.proofs.Cases.{found-is}
+use Rattle.whole.proofs.Found.{found-is}
 use Rattle.congruence.proofs.Sets.{by, bottom-test, all, single-is}
 use Rattle.congruence.proofs.Arithmetic.{combined, D, formula-is, in-product}
 use Rattle.congruence.proofs.Quotients.{quotient-class, divides-test}

@@ -22,7 +22,7 @@ use Rattle.congruence.specs.declared.Congruence.{Congruence}
 use Rattle.congruence.specs.Set.{cong, bottom, _∈_, Canonical, single, nothing, reduced, Proper}
 use Rattle.congruence.specs.Numbers.{absThen, divides?}
 use Rattle.congruence.specs.Mended.{byNumber, quotient}
-use Rattle.congruence.proofs.Cases.{found-is, found-fits, not-found}
+use Rattle.whole.proofs.Found.{found-is, found-fits, not-found}
 use Rattle.congruence.proofs.Sets.{clash, bottom-test, all, single-is, reduced-in, reduced-proper, canonical-positive, top-proper, bottom-proper}
 use Rattle.congruence.proofs.Lattice.{beside-3, beside-proper}
 use Rattle.congruence.proofs.Arithmetic.{result-cases}

@@ -1,4 +1,4 @@
--- The quotient and the remainder toward zero by 0, by 1 and by -1, and the magnitude of a difference.
+-- The magnitude of a difference.
 use mathlib.Core.Path.{_≡_, ap, _∙_}
 use Prim.Native.Nat.{suc, _+_, _-_, _≤_, _<_}
 use native.Mathlib.Nat.{mod-zero, mod-one, div-zero, div-one}
@@ -11,24 +11,6 @@ use Rattle.whole.proofs.Linear.{ints, sub, abs}
 use Rattle.whole.proofs.Fits.{range}
 use Rattle.whole.proofs.Ring.{natAbs-zero}
 use Rattle.whole.proofs.Divide.{natAbs-rem, quot-neg}
-
-pub rem-zero : (x : ℤ) → remZ x (pos 0) ≡ x
-rem-zero (pos a) = ap pos (mod-zero a)
-rem-zero (negsuc a) = ap (λ t. negℤ (pos t)) (mod-zero (suc a))
-
-pub rem-minus : (x : ℤ) → remZ x (negsuc 0) ≡ pos 0
-rem-minus x = natAbs-zero (remZ x (negsuc 0)) (natAbs-rem x (negsuc 0) ∙ mod-one (natAbs x))
-
-pub quot-zero : (x : ℤ) → quotZ x (pos 0) ≡ pos 0
-quot-zero (pos a) = ap pos (div-zero a)
-quot-zero (negsuc a) = ap (λ t. negℤ (pos t)) (div-zero (suc a))
-
-quot-one : (x : ℤ) → quotZ x (pos 1) ≡ x
-quot-one (pos a) = ap pos (div-one a)
-quot-one (negsuc a) = ap (λ t. negℤ (pos t)) (div-one (suc a))
-
-pub quot-minus : (x : ℤ) → quotZ x (negsuc 0) ≡ negℤ x
-quot-minus x = quot-neg x (pos 1) ∙ ap negℤ (quot-one x)
 
 -- ---- |x - y| by the signs of the two
 pub apart-below : (x y : ℤ) → x <ℤ pos 0 → y <ℤ pos 0 → (natAbs x - natAbs y) + (natAbs y - natAbs x) ≡ natAbs (x -ℤ y)

@@ -4,18 +4,19 @@ use number::leaves;
 use refusal::Refusal;
 use whole::Exact;
 use whole::Order;
-use whole::exact_mul;
+use whole::Size;
 use whole::floored_remainder;
 
 pub mod mended;
 mod number;
 pub mod ported;
 mod residue;
+pub mod sized;
 
 ghost use mathlib.Core.Path.{_≡_};
 ghost use mathlib.Core.Bool.{_&&_, _||_};
 ghost use Rattle.congruence.specs.Set.{cong, bottom?, domain?, singles?, form};
-ghost use mir.Syntax.{w64};
+ghost use Rattle.whole.specs.Sized.{widthOf};
 ghost use Rattle.congruence.specs.Numbers.{formula, divides?};
 ghost use Rattle.congruence.specs.Ported as spec;
 
@@ -171,10 +172,14 @@ fn both_single(a: Congruence, b: Congruence) -> bool
 }
 
 // The modulus of a product of (c, m) and (e, n).
-fn formula(c: i64, m: i64, e: i64, n: i64) -> Exact
-    ensures { λ r. ⌜ r ≡ formula w64 (cong c m) (cong e n) ⌝ }
+fn formula(size: Size, c: i64, m: i64, e: i64, n: i64) -> Exact
+    ensures { λ r. ⌜ r ≡ formula (widthOf size) (cong c m) (cong e n) ⌝ }
 {
-    gcd_then(gcd_then(exact_mul(m, n), exact_mul(m, e)), exact_mul(n, c))
+    gcd_then(
+        size,
+        gcd_then(size, size.mul(m, n), size.mul(m, e)),
+        size.mul(n, c),
+    )
 }
 
 // d divides both numbers of a.

@@ -1,31 +1,17 @@
-// Numbers on the way to an answer, for every i64: remainder and quotient toward zero, the gcd and the absolute value of numbers
-// that may not fit, and whether two numbers differ by a multiple.
+// Numbers on the way to an answer, for every i64: the gcd and the absolute value of numbers that may not fit, and whether two
+// numbers differ by a multiple.
 use whole::Exact;
-use whole::exact_neg;
-use whole::exact_of;
-use whole::gcd;
+use whole::Size;
+use whole::gcd_u64;
 use whole::magnitude;
+use whole::remainder;
 ghost use mathlib.Core.Path.{_≡_};
 ghost use Prim.Native.Nat.{_+_, _-_};
 ghost use lib.IntN.{natAbs, _-ℤ_};
-ghost use lib.Signed.{quotZ, remZ};
-ghost use mir.Syntax.{w64};
+ghost use lib.Signed.{remZ};
 ghost use Rattle.whole.specs.Test.{_≟_};
-ghost use Rattle.whole.specs.Exact.{exactly};
+ghost use Rattle.whole.specs.Sized.{widthOf};
 ghost use Rattle.congruence.specs.Numbers.{gcdThen, absThen, alike?};
-
-// x % m, where it can be formed; x itself for m = 0, and 0 for m = -1.
-pub fn remainder(x: i64, m: i64) -> i64
-    ensures { λ r. ⌜ r ≡ remZ x m ⌝ }
-{
-    if m == 0 {
-        return x;
-    }
-    if m == -1 {
-        return 0;
-    }
-    x % m
-}
 
 // x % m == c.
 pub fn leaves(x: i64, m: i64, c: i64) -> bool
@@ -34,37 +20,24 @@ pub fn leaves(x: i64, m: i64, c: i64) -> bool
     remainder(x, m) == c
 }
 
-// x / d; 0 for d = 0.
-pub fn quotient(x: i64, d: i64) -> Exact
-    ensures { λ r. ⌜ r ≡ exactly w64 (quotZ x d) ⌝ }
-{
-    if d == 0 {
-        return Exact::Is(0);
-    }
-    if d == -1 {
-        return exact_neg(x);
-    }
-    Exact::Is(x / d)
-}
-
-pub fn gcd_then(x: Exact, y: Exact) -> Exact
-    ensures { λ r. ⌜ r ≡ gcdThen w64 x y ⌝ }
+pub fn gcd_then(size: Size, x: Exact, y: Exact) -> Exact
+    ensures { λ r. ⌜ r ≡ gcdThen (widthOf size) x y ⌝ }
 {
     match x {
         Exact::DoesNotFit => Exact::DoesNotFit,
         Exact::Is(a) => match y {
             Exact::DoesNotFit => Exact::DoesNotFit,
-            Exact::Is(b) => gcd(a, b),
+            Exact::Is(b) => size.natural(gcd_u64(magnitude(a), magnitude(b))),
         },
     }
 }
 
-pub fn abs_then(x: Exact) -> Exact
-    ensures { λ r. ⌜ r ≡ absThen w64 x ⌝ }
+pub fn abs_then(size: Size, x: Exact) -> Exact
+    ensures { λ r. ⌜ r ≡ absThen (widthOf size) x ⌝ }
 {
     match x {
         Exact::DoesNotFit => Exact::DoesNotFit,
-        Exact::Is(a) => exact_of(magnitude(a)),
+        Exact::Is(a) => size.natural(magnitude(a)),
     }
 }
 

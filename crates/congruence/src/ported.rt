@@ -15,17 +15,18 @@ use crate::held;
 use crate::number::abs_then;
 use crate::number::gcd_then;
 use crate::number::leaves;
-use crate::number::quotient;
-use crate::number::remainder;
 use refusal::Refusal;
 use whole::Exact;
 use whole::Order;
+use whole::Size;
 use whole::exact_add;
 use whole::exact_mul;
 use whole::exact_neg;
+use whole::exact_quotient;
 use whole::exact_sub;
 use whole::gcd;
 use whole::lcm;
+use whole::remainder;
 ghost use mathlib.Core.Path.{_≡_};
 ghost use Rattle.congruence.specs.declared.CongruenceAnswer.the-variants.{Is};
 ghost use Rattle.congruence.specs.Set.{cong, bottom};
@@ -179,8 +180,8 @@ fn joined(a: Congruence, b: Congruence) -> CongruenceAnswer
         return CongruenceAnswer::Is(a);
     }
     let g = gcd(a.modulus, b.modulus);
-    let d = abs_then(exact_sub(a.constant, b.constant));
-    made(Exact::Is(a.constant), gcd_then(g, d))
+    let d = abs_then(Size::B64, exact_sub(a.constant, b.constant));
+    made(Exact::Is(a.constant), gcd_then(Size::B64, g, d))
 }
 
 pub fn join(a: Congruence, b: Congruence) -> CongruenceAnswer
@@ -223,7 +224,7 @@ fn met_classes(a: Congruence, b: Congruence) -> CongruenceAnswer
     ensures { λ r. ⌜ r ≡ spec.metClasses a b ⌝ }
 {
     let g = gcd(a.modulus, b.modulus);
-    let d = abs_then(exact_sub(a.constant, b.constant));
+    let d = abs_then(Size::B64, exact_sub(a.constant, b.constant));
     met_unless(indivisible(d, g), a, b)
 }
 
@@ -351,7 +352,7 @@ fn multiplied(a: Congruence, b: Congruence) -> CongruenceAnswer
     if either_bottom(a, b) {
         return CongruenceAnswer::Is(Congruence::BOTTOM);
     }
-    let g = formula(a.constant, a.modulus, b.constant, b.modulus);
+    let g = formula(Size::B64, a.constant, a.modulus, b.constant, b.modulus);
     made(exact_mul(a.constant, b.constant), g)
 }
 
@@ -369,7 +370,7 @@ fn divided_by(a: Congruence, d: i64) -> CongruenceAnswer
     ensures { λ r. ⌜ r ≡ spec.dividedBy a d ⌝ }
 {
     if divisible(a, d) {
-        asserted(quotient(a.constant, d), quotient(a.modulus, d))
+        asserted(exact_quotient(a.constant, d), exact_quotient(a.modulus, d))
     } else {
         CongruenceAnswer::Is(Congruence::TOP)
     }

@@ -2,15 +2,15 @@
 use crate::Congruence;
 use crate::number::alike;
 use whole::Exact;
+use whole::Size;
 use whole::floored_remainder;
 use whole::gcd_u64;
-use whole::lcm_u64;
 use whole::magnitude;
 ghost use mathlib.Core.Path.{_≡_};
 ghost use Prim.Native.Nat.{_+_, _-_, _*_, _%_, _<_};
 ghost use lib.IntN.{pos, _*ℤ_};
-ghost use mir.Syntax.{w64};
 ghost use Rattle.whole.specs.Divides.{gcd, lcm, Cong};
+ghost use Rattle.whole.specs.Sized.{widthOf};
 ghost use Rattle.congruence.specs.Set.{cong};
 ghost use Rattle.congruence.specs.Mended as spec;
 
@@ -100,15 +100,15 @@ fn shared(c: i64, p: u64, e: i64, q: u64) -> u64
 }
 
 // The common numbers of the classes (c, m) and (e, n); (c, m) itself if they share one and the lcm doesn't fit.
-pub fn overlap(c: i64, m: i64, e: i64, n: i64) -> Congruence
-    ensures { λ r. ⌜ r ≡ spec.overlap w64 (cong c m) (cong e n) ⌝ }
+pub fn overlap(size: Size, c: i64, m: i64, e: i64, n: i64) -> Congruence
+    ensures { λ r. ⌜ r ≡ spec.overlap (widthOf size) (cong c m) (cong e n) ⌝ }
 {
     let p = magnitude(m);
     let q = magnitude(n);
     if !alike(gcd_u64(p, q), c, e) {
         return Congruence::BOTTOM;
     }
-    match lcm_u64(p, q) {
+    match size.lcm(p, q) {
         Exact::DoesNotFit => Congruence {
             constant: c,
             modulus: m,

@@ -58,9 +58,12 @@ checkedOf w (refused n p) room = nothing (atByte n p)
 unfoldable pub checking : Width → List ℕ → List ℤ → Result
 checking w bytes room = checkedOf w (parse bytes) room
 
--- what `check` promises of its answer, and of the room after it
+-- what `check_at` promises of its answer, and of the room after it
+abbrev pub CheckedAt : Width → List ℕ → (room after : List ℤ) → CheckAnswer → Type 0
+CheckedAt w bytes room after r = (checkTold r ≡ checking w bytes room .told) × (after ≡ sets room 0 (checking w bytes room .numbers))
+
 abbrev pub Checked : List ℕ → (room after : List ℤ) → CheckAnswer → Type 0
-Checked bytes room after r = (checkTold r ≡ checking w64 bytes room .told) × (after ≡ sets room 0 (checking w64 bytes room .numbers))
+Checked = CheckedAt w64
 
 -- what a step shows, its operands looked up among the first k of the room
 unfoldable pub stepIn : Width → List ℤ → ℕ → Action → Answered Shown

@@ -7,6 +7,7 @@ use sign::Sign;
 use step::Action;
 use step::show::Shown;
 use step::show::ShownAnswer;
+use whole::Size;
 ghost use mathlib.Core.Path.{_≡_};
 ghost use Prim.Native.Nat.{_+_, _*_, _/_, _<_, _≤_};
 ghost use mathlib.Core.List.{[], _∷_};
@@ -14,14 +15,14 @@ ghost use lib.IntN.{pos};
 ghost use lib.ListN.{length};
 ghost use Rattle.sign.specs.Index.{indexOf};
 ghost use lib.Seq.{sets};
-ghost use mir.Syntax.{w64};
+ghost use Rattle.whole.specs.Sized.{widthOf};
 ghost use Rattle.sheet.specs.Sheet.{stepsOf};
 ghost use Rattle.panel.specs.Run.{actionAt};
 ghost use Rattle.step.specs.Show.{shownTold};
 ghost use Rattle.step.specs.Stopping.{stopping};
 ghost use Rattle.desk.specs.Check.{checkSheet};
 ghost use Rattle.desk.specs.Five.{fiveOf, signAt, lookedUp};
-ghost use Rattle.desk.specs.Answer.{checkTold, checkedOn, resultOf, stepIn, Result, Checked};
+ghost use Rattle.desk.specs.Answer.{checkTold, checkedOn, resultOf, stepIn, Result, CheckedAt, Checked};
 
 // What checking a sheet answers.
 pub enum CheckAnswer {
@@ -97,13 +98,14 @@ pub fn shown_at(room: &[i64], p: usize) -> Shown
 }
 
 // What a step shows after k steps, or its refusal.
-fn shown_of(act: Action, room: &[i64], k: usize) -> ShownAnswer
+fn shown_of(size: Size, act: Action, room: &[i64], k: usize) -> ShownAnswer
     requires { ⌜ (k ≤ 256) × (k * 5 ≤ length (now room)) ⌝ }
-    ensures { λ r. ⌜ shownTold r ≡ stepIn w64 (now (room .entry)) k act ⌝ }
+    ensures { λ r. ⌜ shownTold r ≡ stepIn (widthOf size) (now (room .entry)) k act ⌝ }
 {
     match act {
         Action::Input(l, h) => ShownAnswer::Shows(step::show::input(l, h)),
         Action::Does(o, p, q, r) => step::show::show(
+            size,
             o,
             looked_up(room, k, p),
             looked_up(room, k, q),
@@ -161,14 +163,14 @@ fn action_at(steps: &[i64], n: usize, k: usize) -> Action
 }
 
 // Checks n steps, and puts what they show into the room.
-fn check_steps(steps: &[i64], n: usize, room: &mut [i64]) -> CheckAnswer
+fn check_steps(size: Size, steps: &[i64], n: usize, room: &mut [i64]) -> CheckAnswer
     requires { ⌜ (n ≤ 256) × (length (now steps) ≡ n * 4) × (n * 5 ≤ length (now room)) ⌝ }
-    ensures { λ r. ⌜ (checkTold r ≡ resultOf (checkSheet (stopping w64) (stepsOf (now (steps .entry)))) .told) × (now (room .exit) ≡ sets (now (room .entry)) 0 (resultOf (checkSheet (stopping w64) (stepsOf (now (steps .entry)))) .numbers)) ⌝ }
+    ensures { λ r. ⌜ (checkTold r ≡ resultOf (checkSheet (stopping (widthOf size)) (stepsOf (now (steps .entry)))) .told) × (now (room .exit) ≡ sets (now (room .entry)) 0 (resultOf (checkSheet (stopping (widthOf size)) (stepsOf (now (steps .entry)))) .numbers)) ⌝ }
 {
     let mut k: usize = 0;
     while k < n {
         let act = action_at(steps, n, k);
-        match shown_of(act, room, k) {
+        match shown_of(size, act, room, k) {
             ShownAnswer::Shows(v) => {
                 put(room, k, v);
                 k = k + 1;
@@ -182,19 +184,19 @@ fn check_steps(steps: &[i64], n: usize, room: &mut [i64]) -> CheckAnswer
 }
 
 // Checks n steps that were read: 16, then the steps.
-fn check_listed(steps: &[i64], n: usize, room: &mut [i64]) -> CheckAnswer
+fn check_listed(size: Size, steps: &[i64], n: usize, room: &mut [i64]) -> CheckAnswer
     requires { ⌜ (n ≤ 256) × (length (now steps) ≡ n * 4) ⌝ }
-    ensures { λ r. ⌜ (checkTold r ≡ checkedOn w64 (stepsOf (now (steps .entry))) (now (room .entry)) .told) × (now (room .exit) ≡ sets (now (room .entry)) 0 (checkedOn w64 (stepsOf (now (steps .entry))) (now (room .entry)) .numbers)) ⌝ }
+    ensures { λ r. ⌜ (checkTold r ≡ checkedOn (widthOf size) (stepsOf (now (steps .entry))) (now (room .entry)) .told) × (now (room .exit) ≡ sets (now (room .entry)) 0 (checkedOn (widthOf size) (stepsOf (now (steps .entry))) (now (room .entry)) .numbers)) ⌝ }
 {
     if room.len() < n * 5 {
         return CheckAnswer::Refused(Refusal::NoRoom);
     }
-    check_steps(steps, n, room)
+    check_steps(size, steps, n, room)
 }
 
-// Checks a sheet, and puts what each step shows into the lent room, five numbers a step.
-pub fn check(bytes: &[u8], room: &mut [i64]) -> CheckAnswer
-    ensures { λ r. ⌜ Checked (now (bytes .entry)) (now (room .entry)) (now (room .exit)) r ⌝ }
+// Checks a sheet for panels of a size, and puts what each step shows into the lent room, five numbers a step.
+pub fn check_at(size: Size, bytes: &[u8], room: &mut [i64]) -> CheckAnswer
+    ensures { λ r. ⌜ CheckedAt (widthOf size) (now (bytes .entry)) (now (room .entry)) (now (room .exit)) r ⌝ }
 {
     let mut steps = [0i64; 1024];
     match sheet::read(bytes, &mut steps) {
@@ -203,9 +205,16 @@ pub fn check(bytes: &[u8], room: &mut [i64]) -> CheckAnswer
                 return CheckAnswer::Refused(Refusal::NoRoom);
             }
             let e = n * 4;
-            check_listed(&steps[0..e], n, room)
+            check_listed(size, &steps[0..e], n, room)
         }
         ReadAnswer::RefusedAt(r, p) => CheckAnswer::RefusedAt(r, p),
         ReadAnswer::Refused(r) => CheckAnswer::Refused(r),
     }
+}
+
+// Checks a sheet at 64 bits.
+pub fn check(bytes: &[u8], room: &mut [i64]) -> CheckAnswer
+    ensures { λ r. ⌜ Checked (now (bytes .entry)) (now (room .entry)) (now (room .exit)) r ⌝ }
+{
+    check_at(Size::B64, bytes, room)
 }

@@ -2,11 +2,12 @@
 use mathlib.Core.Path.{_≡_, refl}
 use mathlib.Core.Bool.{Bool, true, false, _&&_, _||_}
 use lib.IntN.{ℤ}
-use mir.Syntax.{w64}
 use Rattle.whole.specs.Test.{_≟_}
 use borrow.Author.Tests.{ne-eqb}
 use Rattle.whole.specs.Choice.{pick}
 use Rattle.whole.specs.Range.{least, greatest}
+use Rattle.whole.specs.Sized.{widthOf}
+use Rattle.whole.specs.declared.Size.{Size}
 use Rattle.whole.proofs.Flags.{bools, told, was-false, was-true, and-yes, and-no, and-no-2, or-yes, or-yes-2, or-no}
 use Rattle.whole.proofs.Calls.{called-1, called}
 use Rattle.interval.specs.declared.IntervalAnswer.{IntervalAnswer}
@@ -35,12 +36,15 @@ pub ruleset ors = (or-is, or-is-no, bools)
 
 pub ruleset ands = (and-is, and-is-no, ne-eqb, bools)
 
--- ---- canonical, by the code's test
-pub canonical-no : (i : Interval) (r : Bool) → empty? i ≡ true → r ≡ isBottom w64 i → r ≡ canonical? w64 i
-canonical-no i r h e = rw h e
+pub ends-called : (i : Interval) (k l m n : ℤ) (r : Bool) → r ≡ ((i .min ≟ k) && (i .max ≟ m)) → k ≡ l → m ≡ n → r ≡ ((i .min ≟ l) && (i .max ≟ n))
+ends-called i k l m n r h p q = rw (p, q) at h
 
-pub canonical-yes : (i : Interval) → empty? i ≡ false → true ≡ canonical? w64 i
-canonical-yes i h = rw h refl
+-- ---- canonical, by the code's test
+pub canonical-no : (s : Size) (i : Interval) (r : Bool) → empty? i ≡ true → r ≡ isBottom (widthOf s) i → r ≡ canonical? (widthOf s) i
+canonical-no s i r h e = rw h e
+
+pub canonical-yes : (s : Size) (i : Interval) → empty? i ≡ false → true ≡ canonical? (widthOf s) i
+canonical-yes s i h = rw h refl
 
 pub ruleset asked = (told, was-false, was-true, and-yes, and-no, and-no-2, or-yes, or-yes-2, or-no)
 
@@ -48,18 +52,15 @@ pub ruleset asked = (told, was-false, was-true, and-yes, and-no, and-no-2, or-ye
 pub is-made : (a b : Interval) → a ≡ b → _≡_ {A = Answer Interval} (is a) (is b)
 is-made a b e = rw e refl
 
-pub strict-is : (a b u v : Interval) (r : IntervalAnswer) → A.told r ≡ strict w64 a b (is v) → v ≡ u → A.told r ≡ strict w64 a b (is u)
-strict-is a b u v r h e = rw e at h
+pub strict-is : (z : Size) (a b u v : Interval) (r : IntervalAnswer) → A.told r ≡ strict (widthOf z) a b (is v) → v ≡ u → A.told r ≡ strict (widthOf z) a b (is u)
+strict-is z a b u v r h e = rw e at h
 
-pub lenient-made : (a b v : Interval) (p q s t : Bool) (r : IntervalAnswer) → A.told r ≡ lenient w64 a b v → v ≡ verdict p q → p ≡ s → q ≡ t → A.told r ≡ lenient w64 a b (verdict s t)
-lenient-made a b v p q s t r h e f g = rw (e, f, g) at h
+pub lenient-made : (z : Size) (a b v : Interval) (p q s t : Bool) (r : IntervalAnswer) → A.told r ≡ lenient (widthOf z) a b v → v ≡ verdict p q → p ≡ s → q ≡ t → A.told r ≡ lenient (widthOf z) a b (verdict s t)
+lenient-made z a b v p q s t r h e f g = rw (e, f, g) at h
 
-pub filled-called : (a m r : Interval) → r ≡ filled w64 m → m ≡ a → r ≡ filled w64 a
-filled-called = called-1 (filled w64)
+pub filled-called : (s : Size) (a m r : Interval) → r ≡ filled (widthOf s) m → m ≡ a → r ≡ filled (widthOf s) a
+filled-called s = called-1 (filled (widthOf s))
 
 -- ---- narrowing's ends
-pub low-called : (n m p q r : ℤ) → r ≡ pick (q ≟ least w64) m q → m ≡ n → q ≡ p → r ≡ pick (p ≟ least w64) n p
-low-called = called (λ n p. pick (p ≟ least w64) n p)
-
-pub high-called : (n m p q r : ℤ) → r ≡ pick (q ≟ greatest w64) m q → m ≡ n → q ≡ p → r ≡ pick (p ≟ greatest w64) n p
-high-called = called (λ n p. pick (p ≟ greatest w64) n p)
+pub end-called : (i e m n p q r : ℤ) → r ≡ pick (q ≟ e) m q → e ≡ i → m ≡ n → q ≡ p → r ≡ pick (p ≟ i) n p
+end-called i e m n p q r h u v k = rw (u, v, k) at h

@@ -1,5 +1,5 @@
 -- From exact ends to the range between them, as the mended operations put them together.
-use mathlib.Core.Path.{_≡_, refl, _∙_}
+use mathlib.Core.Path.{_≡_, refl, ap, _∙_}
 use mathlib.Core.Logic.{_⊎_, inl, inr}
 use mathlib.Core.Bool.{Bool, true, false, _&&_}
 use lib.IntN.{ℤ, negℤ, _+ℤ_, _-ℤ_, _*ℤ_}
@@ -10,32 +10,36 @@ use Rattle.whole.specs.Choice.{pick}
 use Rattle.whole.specs.Whole.{minℤ, maxℤ, min4, max4}
 use Rattle.whole.specs.Range.{least, greatest, fits?}
 use Rattle.whole.specs.Exact.{exactly}
+use Rattle.whole.specs.Sized.{widthOf}
+use Rattle.whole.specs.declared.Size.{Size}
 use Rattle.whole.specs.declared.Exact.{Exact}
 use Rattle.whole.specs.declared.Exact.the-variants.{Is, DoesNotFit}
 use Rattle.whole.proofs.Linear.{ints}
 use Rattle.whole.proofs.Linear as L
-use Rattle.whole.proofs.Fits.{low, high}
-use Rattle.whole.proofs.Decides.{Beyond, both, fits-test, same-test, not-beyond}
+use Rattle.whole.proofs.Fits.{low, high, fits}
+use Rattle.whole.proofs.Decides.{Beyond, both, branch, is-false, fits-test, same-test, not-beyond}
+use Rattle.whole.proofs.Sizes.{wider}
 use Rattle.whole.proofs.Calls.{called-1, called}
 use Rattle.interval.specs.declared.IntervalAnswer.{IntervalAnswer}
-use Rattle.interval.specs.Set.{Interval, _⋯_}
+use Rattle.interval.specs.Set.{Interval, _⋯_, _∈_, top}
 use Rattle.interval.specs.Answer.{is, refused, told}
-use Rattle.interval.specs.Ends.{rangeOf, leastOf, greatestOf}
+use Rattle.interval.specs.Ends.{rangeOf, leastOf, greatestOf, heldRange}
 use Rattle.interval.specs.Mended.{ranged, strict, lowCorner, highCorner}
 use Rattle.interval.proofs.Ends.{min-is, max-is}
+use Rattle.interval.proofs.Test.{in-test}
 
 -- ---- a call of an exact operation
-pub neg-called : (a m : ℤ) (r : Exact) → r ≡ exactly w64 (negℤ m) → m ≡ a → r ≡ exactly w64 (negℤ a)
-neg-called = called-1 (λ x. exactly w64 (negℤ x))
+pub neg-called : (s : Size) (a m : ℤ) (r : Exact) → r ≡ exactly (widthOf s) (negℤ m) → m ≡ a → r ≡ exactly (widthOf s) (negℤ a)
+neg-called s = called-1 (λ x. exactly (widthOf s) (negℤ x))
 
-pub add-called : (a m b n : ℤ) (r : Exact) → r ≡ exactly w64 (m +ℤ n) → m ≡ a → n ≡ b → r ≡ exactly w64 (a +ℤ b)
-add-called = called (λ x y. exactly w64 (x +ℤ y))
+pub add-called : (s : Size) (a m b n : ℤ) (r : Exact) → r ≡ exactly (widthOf s) (m +ℤ n) → m ≡ a → n ≡ b → r ≡ exactly (widthOf s) (a +ℤ b)
+add-called s = called (λ x y. exactly (widthOf s) (x +ℤ y))
 
-pub sub-called : (a m b n : ℤ) (r : Exact) → r ≡ exactly w64 (m -ℤ n) → m ≡ a → n ≡ b → r ≡ exactly w64 (a -ℤ b)
-sub-called = called (λ x y. exactly w64 (x -ℤ y))
+pub sub-called : (s : Size) (a m b n : ℤ) (r : Exact) → r ≡ exactly (widthOf s) (m -ℤ n) → m ≡ a → n ≡ b → r ≡ exactly (widthOf s) (a -ℤ b)
+sub-called s = called (λ x y. exactly (widthOf s) (x -ℤ y))
 
-pub mul-called : (a m b n : ℤ) (r : Exact) → r ≡ exactly w64 (m *ℤ n) → m ≡ a → n ≡ b → r ≡ exactly w64 (a *ℤ b)
-mul-called = called (λ x y. exactly w64 (x *ℤ y))
+pub mul-called : (s : Size) (a m b n : ℤ) (r : Exact) → r ≡ exactly (widthOf s) (m *ℤ n) → m ≡ a → n ≡ b → r ≡ exactly (widthOf s) (a *ℤ b)
+mul-called s = called (λ x y. exactly (widthOf s) (x *ℤ y))
 
 -- ---- the range between two exact ends
 pub range-is : (w : Width) (lo hi : ℤ) → rangeOf (exactly w lo) (exactly w hi) ≡ ranged w lo hi
@@ -47,8 +51,8 @@ range-is w lo hi = go (fits? w lo) (fits? w hi)
     go true false = refl
     go false q = refl
 
-pub ranged-made : (a b : Interval) (lo hi : ℤ) (e f : Exact) (s r : IntervalAnswer) → told r ≡ strict w64 a b (told s) → told s ≡ rangeOf e f → e ≡ exactly w64 lo → f ≡ exactly w64 hi → told r ≡ strict w64 a b (ranged w64 lo hi)
-ranged-made a b lo hi e f s r h k p q = let m : told s ≡ ranged w64 lo hi = rw (p, q) at k ∙ range-is w64 lo hi in rw m at h
+pub ranged-made : (z : Size) (a b : Interval) (lo hi : ℤ) (e f : Exact) (s r : IntervalAnswer) → told r ≡ strict (widthOf z) a b (told s) → told s ≡ rangeOf e f → e ≡ exactly (widthOf z) lo → f ≡ exactly (widthOf z) hi → told r ≡ strict (widthOf z) a b (ranged (widthOf z) lo hi)
+ranged-made z a b lo hi e f s r h k p q = let m : told s ≡ ranged (widthOf z) lo hi = rw (p, q) at k ∙ range-is (widthOf z) lo hi in rw m at h
 
 -- ---- the range of four corners
 pub least-called : (a m b n r : Exact) → r ≡ leastOf m n → m ≡ a → n ≡ b → r ≡ leastOf a b
@@ -107,5 +111,23 @@ module _ (a b c d : ℤ) where
         go true false r s = refl
         go false q r s = refl
 
-pub corners-made : (a b : Interval) (e f g h : Exact) (s r : IntervalAnswer) → told r ≡ strict w64 a b (told s) → told s ≡ rangeOf (leastOf (leastOf e f) (leastOf g h)) (greatestOf (greatestOf e f) (greatestOf g h)) → e ≡ exactly w64 (a .min *ℤ b .min) → f ≡ exactly w64 (a .min *ℤ b .max) → g ≡ exactly w64 (a .max *ℤ b .min) → h ≡ exactly w64 (a .max *ℤ b .max) → told r ≡ strict w64 a b (ranged w64 (lowCorner a b) (highCorner a b))
-corners-made a b e f g h s r m k p q t u = let n : told s ≡ ranged w64 (lowCorner a b) (highCorner a b) = rw (p, q, t, u) at k ∙ corners-are (a .min *ℤ b .min) (a .min *ℤ b .max) (a .max *ℤ b .min) (a .max *ℤ b .max) w64 in rw n at m
+-- ---- a range of 64 bits, held to a size
+held-range : (z : Size) (lo hi : ℤ) → heldRange (widthOf z) (ranged w64 lo hi) ≡ ranged (widthOf z) lo hi
+unfolding heldRange
+held-range z lo hi = branch (both (in-test lo (top w64)) (in-test hi (top w64))) (λ r. heldRange (widthOf z) r ≡ ranged (widthOf z) lo hi) (λ _. refl) λ n. rw (is-false (both (in-test lo (top (widthOf z))) (in-test hi (top (widthOf z)))) (λ h. none h n))
+  where
+    out : (x : ℤ) → x ∈ top (widthOf z) → Beyond w64 x → ⊥
+    out x h = not-beyond (wider z (fits (widthOf z) x (h .low) (h .high)))
+
+    none : (lo ∈ top (widthOf z)) × (hi ∈ top (widthOf z)) → Beyond w64 lo ⊎ Beyond w64 hi → ⊥
+    none h (inl n) = out lo (h .0) n
+    none h (inr n) = out hi (h .1) n
+
+pub range-exact : (z : Size) (lo hi m n : ℤ) (e f : Exact) (r : IntervalAnswer) → told r ≡ rangeOf e f → e ≡ exactly (widthOf z) m → f ≡ exactly (widthOf z) n → m ≡ lo → n ≡ hi → told r ≡ ranged (widthOf z) lo hi
+range-exact z lo hi m n e f r h p q u v = rw (p, q, u, v) at h ∙ range-is (widthOf z) lo hi
+
+pub corners-made : (z : Size) (a b : Interval) (e f g h : Exact) (s t r : IntervalAnswer) → told r ≡ strict (widthOf z) a b (told t) → told t ≡ heldRange (widthOf z) (told s) → told s ≡ rangeOf (leastOf (leastOf e f) (leastOf g h)) (greatestOf (greatestOf e f) (greatestOf g h)) → e ≡ exactly w64 (a .min *ℤ b .min) → f ≡ exactly w64 (a .min *ℤ b .max) → g ≡ exactly w64 (a .max *ℤ b .min) → h ≡ exactly w64 (a .max *ℤ b .max) → told r ≡ strict (widthOf z) a b (ranged (widthOf z) (lowCorner a b) (highCorner a b))
+corners-made z a b e f g h s t r m l k p q u v =
+    let n : told s ≡ ranged w64 (lowCorner a b) (highCorner a b) = rw (p, q, u, v) at k ∙ corners-are (a .min *ℤ b .min) (a .min *ℤ b .max) (a .max *ℤ b .min) (a .max *ℤ b .max) w64 in
+    let o : told t ≡ ranged (widthOf z) (lowCorner a b) (highCorner a b) = l ∙ (ap (heldRange (widthOf z)) n ∙ held-range z (lowCorner a b) (highCorner a b)) in
+    rw o at m

@@ -11,36 +11,37 @@ use mir.Facts.{toZ-ofZ}
 use Rattle.whole.specs.Choice.{pick}
 use Rattle.whole.specs.Test.{_≤?_, _<?_, _≟_}
 use Rattle.whole.specs.Whole.{maxℤ}
-use Rattle.whole.specs.Range.{least, greatest, clamp}
-use Rattle.whole.proofs.Linear.{ints, abs, from-≢}
+use Rattle.whole.specs.Range.{least, greatest, clamp, fits?}
+use Rattle.whole.specs.Exact.{exactly}
+use Rattle.whole.specs.Sized.{widthOf}
+use Rattle.whole.specs.declared.Size.{Size}
+use Rattle.whole.specs.declared.Exact.{Exact}
+use Rattle.whole.specs.declared.Exact.the-variants.{Is, DoesNotFit}
+use Rattle.whole.proofs.Found.{found-fits, not-found}
 use Rattle.whole.proofs.Linear as L
 use Rattle.whole.proofs.Shapes.{lin}
 use Rattle.whole.proofs.Fits.{machine, range, low, high}
-use Rattle.whole.proofs.Divide.{rem-small, fits-quot, fits-quot-above}
 use Rattle.whole.proofs.Decides.{branch, both, lt-test, eq-test, yes, no, is-false}
 use Rattle.whole.proofs.Calls.{called}
 use Rattle.interval.specs.declared.IntervalAnswer.{IntervalAnswer}
-use Rattle.interval.specs.Set.{Interval, bottom, single, isOnly, empty?, canonical?}
+use Rattle.interval.specs.Set.{Interval, _⋯_, bottom, single, isOnly, empty?, canonical?}
 use Rattle.interval.specs.Answer.{Answer, is, refused, told}
 use Rattle.interval.specs.Mended.{strict, remSingle, remWithin}
-use Rattle.interval.proofs.Test.{is-in, only-test}
+use Rattle.interval.proofs.Test.{only-test}
 use Rattle.interval.proofs.Rem.{signs, one-fits}
 
 -- ---- two single numbers
-quot-is : (w : Width) (x y : ℤ) → SFits w (quotZ x y) → is (single (remZ x y)) ≡ remSingle w x y
-quot-is w x y f = rw (is-in (record { low = low w _ f; high = high w _ f }))
+module _ (s : Size) (x y m n : ℤ) (e : Exact) (h : e ≡ exactly (widthOf s) (quotZ m n)) (p : m ≡ x) (o : n ≡ y) where
+  asked : e ≡ exactly (widthOf s) (quotZ x y)
+  asked = rw (p, o) at h
 
-pub rem-refused : refused 2 ≡ remSingle w64 (least w64) (negsuc 0)
-unfolding _≤?_
-rem-refused = refl
+  pub rem-single : (q z k l : ℤ) → e ≡ Is q → z ≡ remZ m n → k ≡ z → l ≡ z → is (k ⋯ l) ≡ remSingle (widthOf s) x y
+  unfolding fits?
+  rem-single q z k l f r u v = rw (u, v, r, p, o, found-fits (widthOf s) (quotZ x y) q (sym asked ∙ f)) refl
 
-pub rem-none : (x : ℤ) → SFits w64 x → x ≢ least w64 → is (single (pos 0)) ≡ remSingle w64 x (negsuc 0)
-rem-none x f n =
-    let e : remZ x (negsuc 0) ≡ pos 0 = omega (ints, abs (remZ x (negsuc 0)), rem-small x (negsuc 0) (λ e. omega ints)) in
-    rw (sym e) (quot-is w64 x (negsuc 0) (fits-quot-above w64 x (negsuc 0) f (omega (ints, from-≢ n, low w64 x f))))
-
-pub rem-plain : (x y : ℤ) → SFits w64 x → y ≢ negsuc 0 → is (single (remZ x y)) ≡ remSingle w64 x y
-rem-plain x y f n = quot-is w64 x y (fits-quot x y f n)
+  pub rem-over : e ≡ DoesNotFit → refused 2 ≡ remSingle (widthOf s) x y
+  unfolding fits?
+  rem-over f = rw (not-found (widthOf s) (quotZ x y) (sym asked ∙ f)) refl
 
 -- ---- the greatest magnitude less one
 module _ {w : Width} {x : ℤ} (f : SFits w x) where
@@ -110,30 +111,18 @@ reach-called = called (λ x y. maxℤ (negℤ x) y -ℤ pos 1)
 pub within-called : (a : Interval) (l m h n : ℤ) (r : Interval) → r ≡ remWithin a m n → m ≡ l → n ≡ h → r ≡ remWithin a l h
 within-called a = called (remWithin a)
 
-pub not-zero : (a b : Interval) (y : ℤ) (s : Bool) → isOnly b (pos 0) ≡ false → s ≡ ((a .min ≟ a .max) && (b .min ≟ b .max)) → s ≡ true → y ≡ b .min → (y ≟ pos 0) ≡ false
-not-zero a b y s h d e p = is-false (eq-test y (pos 0)) (λ z. none (no (only-test b (pos 0)) h) (sym p ∙ z))
-  where
-    none : (b .min ≢ pos 0) ⊎ (b .max ≢ pos 0) → b .min ≡ pos 0 → ⊥
-    none (inl n) z = n z
-    none (inr n) z = n (sym (yes (both (eq-test (a .min) (a .max)) (eq-test (b .min) (b .max))) (sym d ∙ e) .1) ∙ z)
+pub single-called : (s : Size) (x m y n : ℤ) (r : IntervalAnswer) → told r ≡ remSingle (widthOf s) m n → m ≡ x → n ≡ y → told r ≡ remSingle (widthOf s) x y
+single-called s x m y n r h p q = rw (p, q) at h
 
--- the second half of an `||` that was false
-pub or-second : (p q r : Bool) → r ≡ (p || q) → r ≡ false → q ≡ false
-or-second true q r h e = cc
-or-second false q r h e = sym h ∙ e
-
-pub single-called : (x m y n : ℤ) (r : IntervalAnswer) → told r ≡ remSingle w64 m n → m ≡ x → n ≡ y → told r ≡ remSingle w64 x y
-single-called x m y n r h p q = rw (p, q) at h
-
-pub ruleset remains = (reach-need, reach-read, reach-called, within-called, not-zero, single-called)
+pub ruleset remains = (reach-need, reach-read, reach-called, within-called, single-called)
 
 -- an empty divisor settles the answer, whatever was made
-pub empty-strict : (a b : Interval) (s t : Answer Interval) (r : IntervalAnswer) → told r ≡ strict w64 a b s → empty? b ≡ true → told r ≡ strict w64 a b t
-empty-strict a b s t r h e = h ∙ go (empty? a) (empty? b) e
+pub empty-strict : (z : Size) (a b : Interval) (s t : Answer Interval) (r : IntervalAnswer) → told r ≡ strict (widthOf z) a b s → empty? b ≡ true → told r ≡ strict (widthOf z) a b t
+empty-strict z a b s t r h e = h ∙ go (empty? a) (empty? b) e
   where
-    go : (p q : Bool) → q ≡ true → pick (canonical? w64 a && canonical? w64 b) (pick (p || q) (is (bottom w64)) s) (refused 1) ≡ pick (canonical? w64 a && canonical? w64 b) (pick (p || q) (is (bottom w64)) t) (refused 1)
+    go : (p q : Bool) → q ≡ true → pick (canonical? (widthOf z) a && canonical? (widthOf z) b) (pick (p || q) (is (bottom (widthOf z))) s) (refused 1) ≡ pick (canonical? (widthOf z) a && canonical? (widthOf z) b) (pick (p || q) (is (bottom (widthOf z))) t) (refused 1)
     go true q e = refl
     go false q e = rw e
 
-pub strict-called : (a b : Interval) (s r : IntervalAnswer) (t : Answer Interval) → told r ≡ strict w64 a b (told s) → told s ≡ t → told r ≡ strict w64 a b t
-strict-called a b s r t h e = rw e at h
+pub strict-called : (z : Size) (a b : Interval) (s r : IntervalAnswer) (t : Answer Interval) → told r ≡ strict (widthOf z) a b (told s) → told s ≡ t → told r ≡ strict (widthOf z) a b t
+strict-called z a b s r t h e = rw e at h

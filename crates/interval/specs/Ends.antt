@@ -1,9 +1,11 @@
 -- The ends of a range as exact numbers: the range between two, and the lesser and the greater of two, each asking that both fit.
+use mir.Syntax.{Width}
 use Rattle.whole.specs.Whole.{minℤ, maxℤ}
 use Rattle.whole.specs.declared.Exact.{Exact}
 use Rattle.whole.specs.declared.Exact.the-variants.{Is, DoesNotFit}
 use Rattle.interval.specs.Set.{Interval, _⋯_}
 use Rattle.interval.specs.Answer.{Answer, is, refused}
+use Rattle.interval.specs.Mended.{ranged}
 
 unfoldable pub rangeOf : Exact → Exact → Answer Interval
 rangeOf (Is lo) (Is hi) = is (lo ⋯ hi)
@@ -19,3 +21,8 @@ unfoldable pub greatestOf : Exact → Exact → Exact
 greatestOf (Is x) (Is y) = Is (maxℤ x y)
 greatestOf (Is x) DoesNotFit = DoesNotFit
 greatestOf DoesNotFit y = DoesNotFit
+
+-- a range that was made, if its ends are numbers of the width
+unfoldable pub heldRange : Width → Answer Interval → Answer Interval
+heldRange w (is v) = ranged w (v .min) (v .max)
+heldRange w (refused n) = refused n

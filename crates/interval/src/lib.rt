@@ -4,21 +4,21 @@ use sign::Sign;
 use whole::Exact;
 use whole::MAX;
 use whole::MIN;
+use whole::Size;
 use whole::max_of;
 ghost use mathlib.Core.Path.{_≡_};
-ghost use mathlib.Core.Bool.{false, _&&_};
-ghost use lib.IntN.{pos};
+ghost use mathlib.Core.Bool.{_&&_};
 ghost use mir.Syntax.{w64};
 ghost use Rattle.whole.specs.Test.{_≟_};
 ghost use Rattle.whole.specs.Range.{least, greatest};
 ghost use Rattle.interval.specs.Set.{_⋯_, single, isOnly, isBottom};
-ghost use Rattle.interval.specs.Mended.{filled, verdict, remSingle};
-ghost use Rattle.interval.specs.Answer.{told};
+ghost use Rattle.interval.specs.Mended.{filled, verdict};
 ghost use Rattle.interval.specs.Ends.{greatestOf};
 ghost use Rattle.interval.specs.Ported.{singleton, ofSign, sideSign, signOf};
 
 pub mod ported; // ported.rt: the Rust's operations, a panic as a refusal
-pub mod mended; // mended.rt: the twins that are right
+pub mod sized; // sized.rt: the twins that are right, at a size of numbers
+pub mod mended; // mended.rt: those at 64 bits
 
 // Canonical: min at most max, or bottom. Every pair is in the domain of the ported operations.
 pub struct Interval {
@@ -126,10 +126,7 @@ impl Interval {
     fn normalize(self) -> Interval
         ensures { λ r. ⌜ r ≡ filled w64 self ⌝ }
     {
-        if self.min > self.max {
-            return Interval::BOTTOM;
-        }
-        self
+        sized::filled(Size::B64, self)
     }
 }
 
@@ -198,19 +195,4 @@ fn both_single(a: Interval, b: Interval) -> bool
     ensures { λ r. ⌜ r ≡ ((a .min ≟ a .max) && (b .min ≟ b .max)) ⌝ }
 {
     a.min == a.max && b.min == b.max
-}
-
-// The remainder of two numbers, refused for MIN and -1.
-fn single_rem(x: i64, y: i64) -> IntervalAnswer
-    requires { ⌜ (y ≟ pos 0) ≡ false ⌝ }
-    ensures { λ r. ⌜ told r ≡ remSingle w64 x y ⌝ }
-{
-    if y == -1 {
-        if x == MIN {
-            return IntervalAnswer::Refused(Refusal::DoesNotFit);
-        }
-        return IntervalAnswer::Is(FALSE_RANGE);
-    }
-    let z = x % y;
-    IntervalAnswer::Is(Interval { min: z, max: z })
 }

@@ -9,13 +9,14 @@ use super::Single;
 use super::TRUE_RANGE;
 use super::both_single;
 use super::greatest_of;
-use super::single_rem;
+use super::sized;
 use super::verdict;
 use refusal::Refusal;
 use whole::Exact;
 use whole::MAX;
 use whole::MIN;
 use whole::Order;
+use whole::Size;
 use whole::exact_of;
 use whole::magnitude;
 use whole::max_of;
@@ -343,32 +344,11 @@ pub fn meet(a: Interval, b: Interval) -> Interval
     result.normalize()
 }
 
-fn narrow_min(new: i64, previous: i64) -> i64
-    ensures { λ r. ⌜ r ≡ pick (previous ≟ least w64) new previous ⌝ }
-{
-    if previous == MIN { new } else { previous }
-}
-
-fn narrow_max(new: i64, previous: i64) -> i64
-    ensures { λ r. ⌜ r ≡ pick (previous ≟ greatest w64) new previous ⌝ }
-{
-    if previous == MAX { new } else { previous }
-}
-
 // Takes the new end where the previous one is infinite.
 pub fn narrow(new: Interval, previous: Interval) -> Interval
     ensures { λ r. ⌜ r ≡ narrowed w64 new previous ⌝ }
 {
-    if previous.is_bottom() {
-        return Interval::BOTTOM;
-    }
-    if new.is_bottom() {
-        return Interval::BOTTOM;
-    }
-    Interval {
-        min: narrow_min(new.min, previous.min),
-        max: narrow_max(new.max, previous.max),
-    }
+    sized::narrowed(Size::B64, new, previous)
 }
 
 // ---- arithmetic
@@ -526,7 +506,7 @@ pub fn rem(a: Interval, b: Interval) -> IntervalAnswer
         return IntervalAnswer::Is(Interval::BOTTOM);
     }
     if both_single(a, b) {
-        return single_rem(a.min, b.min);
+        return sized::single_rem(Size::B64, a.min, b.min);
     }
     rem_large(a, b)
 }

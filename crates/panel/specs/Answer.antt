@@ -6,7 +6,7 @@ use lib.Dec.{leb}
 use lib.IntN.{ℤ}
 use lib.ListN.{length}
 use lib.Seq.{sets}
-use mir.Syntax.{w64}
+use mir.Syntax.{Width, w64}
 use Rattle.refusal.specs.Number.{numberOf}
 use Rattle.whole.specs.Choice.{pick}
 use Rattle.sheet.specs.Got.{Got, got, refused}
@@ -55,6 +55,9 @@ ranOf rules (refused n p) ins room = nothing (refusedAt n p)
 unfoldable pub running : Rules → List ℕ → (ins room : List ℤ) → Result
 running rules bytes ins room = ranOf rules (parse bytes) ins room
 
--- what `run` promises of its answer, and of the room after it
+-- what `run_at` promises of its answer, and of the room after it
+abbrev pub RanAt : Width → List ℕ → (ins room after : List ℤ) → RunAnswer → Type 0
+RanAt w bytes ins room after r = (runTold r ≡ running (runOp w) bytes ins room .told) × (after ≡ sets room 0 (running (runOp w) bytes ins room .numbers))
+
 abbrev pub Ran : List ℕ → (ins room after : List ℤ) → RunAnswer → Type 0
-Ran bytes ins room after r = (runTold r ≡ running (runOp w64) bytes ins room .told) × (after ≡ sets room 0 (running (runOp w64) bytes ins room .numbers))
+Ran = RanAt w64

@@ -3,16 +3,17 @@ use refusal::Refusal;
 use sheet::ReadAnswer;
 use step::Action;
 use step::Outcome;
+use whole::Size;
 ghost use mathlib.Core.Path.{_≡_};
 ghost use Prim.Native.Nat.{_+_, _*_, _<_, _≤_};
 ghost use lib.IntN.{pos};
 ghost use lib.ListN.{length, take, drop, getD};
 ghost use lib.Seq.{sets};
-ghost use mir.Syntax.{w64};
+ghost use Rattle.whole.specs.Sized.{widthOf};
 ghost use Rattle.step.specs.Run.{runOp};
 ghost use Rattle.sheet.specs.Sheet.{stepsOf};
 ghost use Rattle.panel.specs.Run.{runStep, takes, taken?, actionsOf, suits?, runSheet, actionAt};
-ghost use Rattle.panel.specs.Answer.{runTold, ranOn, resultOf, Result, Ran};
+ghost use Rattle.panel.specs.Answer.{runTold, ranOn, resultOf, Result, RanAt, Ran};
 
 // What running a sheet answers.
 pub enum RunAnswer {
@@ -47,12 +48,13 @@ fn input_at(inputs: &[i64], j: usize) -> i64
 }
 
 // What a step gives, after k steps and with the inputs from j on.
-fn outcome(act: Action, inputs: &[i64], j: usize, room: &[i64], k: usize) -> Outcome
-    ensures { λ r. ⌜ r ≡ runStep (runOp w64) (drop j (now (inputs .entry))) (take k (now (room .entry))) act ⌝ }
+fn outcome(size: Size, act: Action, inputs: &[i64], j: usize, room: &[i64], k: usize) -> Outcome
+    ensures { λ r. ⌜ r ≡ runStep (runOp (widthOf size)) (drop j (now (inputs .entry))) (take k (now (room .entry))) act ⌝ }
 {
     match act {
         Action::Input(_, _) => Outcome::Gives(input_at(inputs, j)),
         Action::Does(o, p, q, r) => step::run::run(
+            size,
             o,
             given(room, k, p),
             given(room, k, q),
@@ -115,15 +117,15 @@ fn suits(steps: &[i64], n: usize, inputs: &[i64]) -> bool
 }
 
 // Runs n steps, and puts their numbers into the room.
-fn run_steps(steps: &[i64], n: usize, inputs: &[i64], room: &mut [i64]) -> RunAnswer
+fn run_steps(size: Size, steps: &[i64], n: usize, inputs: &[i64], room: &mut [i64]) -> RunAnswer
     requires { ⌜ (n ≤ 256) × (length (now steps) ≡ n * 4) × (n ≤ length (now room)) ⌝ }
-    ensures { λ r. ⌜ (runTold r ≡ resultOf (runSheet (runOp w64) (now (inputs .entry)) (stepsOf (now (steps .entry)))) .told) × (now (room .exit) ≡ sets (now (room .entry)) 0 (resultOf (runSheet (runOp w64) (now (inputs .entry)) (stepsOf (now (steps .entry)))) .numbers)) ⌝ }
+    ensures { λ r. ⌜ (runTold r ≡ resultOf (runSheet (runOp (widthOf size)) (now (inputs .entry)) (stepsOf (now (steps .entry)))) .told) × (now (room .exit) ≡ sets (now (room .entry)) 0 (resultOf (runSheet (runOp (widthOf size)) (now (inputs .entry)) (stepsOf (now (steps .entry)))) .numbers)) ⌝ }
 {
     let mut k: usize = 0;
     let mut j: usize = 0;
     while k < n {
         let act = action_at(steps, n, k);
-        match outcome(act, inputs, j, room, k) {
+        match outcome(size, act, inputs, j, room, k) {
             Outcome::Gives(x) => {
                 room[k] = x;
                 j = j + used(act);
@@ -138,9 +140,9 @@ fn run_steps(steps: &[i64], n: usize, inputs: &[i64], room: &mut [i64]) -> RunAn
 }
 
 // Runs n steps that were read: 16, then 15, then the steps.
-fn run_listed(steps: &[i64], n: usize, inputs: &[i64], room: &mut [i64]) -> RunAnswer
+fn run_listed(size: Size, steps: &[i64], n: usize, inputs: &[i64], room: &mut [i64]) -> RunAnswer
     requires { ⌜ (n ≤ 256) × (length (now steps) ≡ n * 4) ⌝ }
-    ensures { λ r. ⌜ (runTold r ≡ ranOn (runOp w64) (stepsOf (now (steps .entry))) (now (inputs .entry)) (now (room .entry)) .told) × (now (room .exit) ≡ sets (now (room .entry)) 0 (ranOn (runOp w64) (stepsOf (now (steps .entry))) (now (inputs .entry)) (now (room .entry)) .numbers)) ⌝ }
+    ensures { λ r. ⌜ (runTold r ≡ ranOn (runOp (widthOf size)) (stepsOf (now (steps .entry))) (now (inputs .entry)) (now (room .entry)) .told) × (now (room .exit) ≡ sets (now (room .entry)) 0 (ranOn (runOp (widthOf size)) (stepsOf (now (steps .entry))) (now (inputs .entry)) (now (room .entry)) .numbers)) ⌝ }
 {
     if room.len() < n {
         return RunAnswer::Refused(Refusal::NoRoom);
@@ -148,12 +150,12 @@ fn run_listed(steps: &[i64], n: usize, inputs: &[i64], room: &mut [i64]) -> RunA
     if !suits(steps, n, inputs) {
         return RunAnswer::Refused(Refusal::InputsWrong);
     }
-    run_steps(steps, n, inputs, room)
+    run_steps(size, steps, n, inputs, room)
 }
 
-// Runs a sheet on its inputs, and puts the number of each step into the lent room.
-pub fn run(bytes: &[u8], inputs: &[i64], room: &mut [i64]) -> RunAnswer
-    ensures { λ r. ⌜ Ran (now (bytes .entry)) (now (inputs .entry)) (now (room .entry)) (now (room .exit)) r ⌝ }
+// Runs a sheet on its inputs, by numbers of a size, and puts the number of each step into the lent room.
+pub fn run_at(size: Size, bytes: &[u8], inputs: &[i64], room: &mut [i64]) -> RunAnswer
+    ensures { λ r. ⌜ RanAt (widthOf size) (now (bytes .entry)) (now (inputs .entry)) (now (room .entry)) (now (room .exit)) r ⌝ }
 {
     let mut steps = [0i64; 1024];
     match sheet::read(bytes, &mut steps) {
@@ -162,9 +164,16 @@ pub fn run(bytes: &[u8], inputs: &[i64], room: &mut [i64]) -> RunAnswer
                 return RunAnswer::Refused(Refusal::NoRoom);
             }
             let e = n * 4;
-            run_listed(&steps[0..e], n, inputs, room)
+            run_listed(size, &steps[0..e], n, inputs, room)
         }
         ReadAnswer::RefusedAt(r, p) => RunAnswer::RefusedAt(r, p),
         ReadAnswer::Refused(r) => RunAnswer::Refused(r),
     }
+}
+
+// Runs a sheet at 64 bits.
+pub fn run(bytes: &[u8], inputs: &[i64], room: &mut [i64]) -> RunAnswer
+    ensures { λ r. ⌜ Ran (now (bytes .entry)) (now (inputs .entry)) (now (room .entry)) (now (room .exit)) r ⌝ }
+{
+    run_at(Size::B64, bytes, inputs, room)
 }

@@ -3,8 +3,9 @@ use crate::Operator;
 use interval::Interval;
 use interval::IntervalAnswer;
 use refusal::Refusal;
+use whole::Size;
 ghost use mathlib.Core.Path.{_≡_};
-ghost use mir.Syntax.{w64};
+ghost use Rattle.whole.specs.Sized.{widthOf};
 ghost use Rattle.interval.specs.Answer.{told};
 ghost use Rattle.interval.specs.Set.{_∈?_};
 ghost use Rattle.interval.specs.Mended.{join};
@@ -35,13 +36,13 @@ fn holds(i: Interval, n: i64) -> bool
 }
 
 // 12 where the divisor's range holds 0, 13 where MIN and -1 can meet.
-fn divided(i: Interval, j: Interval, a: RangeAnswer) -> RangeAnswer
-    ensures { λ r. ⌜ rangeTold r ≡ dividedAll w64 i j (rangeTold a) ⌝ }
+fn divided(size: Size, i: Interval, j: Interval, a: RangeAnswer) -> RangeAnswer
+    ensures { λ r. ⌜ rangeTold r ≡ dividedAll (widthOf size) i j (rangeTold a) ⌝ }
 {
     if holds(j, 0) {
         return RangeAnswer::Declines(Refusal::DivisorZero);
     }
-    if holds(i, whole::MIN) {
+    if holds(i, size.least()) {
         if holds(j, -1) {
             return RangeAnswer::Declines(Refusal::ResultTooWide);
         }
@@ -75,17 +76,17 @@ fn choice(i: Interval, j: Interval, k: Interval) -> Interval
 }
 
 // The range that the operator shows on operands of these ranges.
-pub fn range(operator: Operator, i: Interval, j: Interval, k: Interval) -> RangeAnswer
-    ensures { λ r. ⌜ rangeTold r ≡ rangeOp w64 operator i j k ⌝ }
+pub fn range(size: Size, operator: Operator, i: Interval, j: Interval, k: Interval) -> RangeAnswer
+    ensures { λ r. ⌜ rangeTold r ≡ rangeOp (widthOf size) operator i j k ⌝ }
 {
     match operator {
         Operator::Constant(n) => RangeAnswer::Shows(Interval { min: n, max: n }),
-        Operator::Add => fitting(interval::mended::add(i, j)),
-        Operator::Sub => fitting(interval::mended::sub(i, j)),
-        Operator::Mul => fitting(interval::mended::mul(i, j)),
-        Operator::Div => divided(i, j, fitting(interval::mended::div(i, j))),
-        Operator::Rem => divided(i, j, fitting(interval::mended::rem(i, j))),
-        Operator::Equals => fitting(interval::mended::equals(i, j)),
+        Operator::Add => fitting(interval::sized::add(size, i, j)),
+        Operator::Sub => fitting(interval::sized::sub(size, i, j)),
+        Operator::Mul => fitting(interval::sized::mul(size, i, j)),
+        Operator::Div => divided(size, i, j, fitting(interval::sized::div(size, i, j))),
+        Operator::Rem => divided(size, i, j, fitting(interval::sized::rem(size, i, j))),
+        Operator::Equals => fitting(interval::sized::equals(size, i, j)),
         Operator::And => logical(
             i,
             logical(j, RangeAnswer::Shows(interval::ported::logical_and(i, j))),
@@ -94,10 +95,10 @@ pub fn range(operator: Operator, i: Interval, j: Interval, k: Interval) -> Range
             i,
             logical(j, RangeAnswer::Shows(interval::ported::logical_or(i, j))),
         ),
-        Operator::Less => fitting(interval::mended::less(i, j)),
-        Operator::Greater => fitting(interval::mended::greater(i, j)),
-        Operator::LessOrEqual => fitting(interval::mended::less_or_equal(i, j)),
-        Operator::GreaterOrEqual => fitting(interval::mended::greater_or_equal(i, j)),
+        Operator::Less => fitting(interval::sized::less(size, i, j)),
+        Operator::Greater => fitting(interval::sized::greater(size, i, j)),
+        Operator::LessOrEqual => fitting(interval::sized::less_or_equal(size, i, j)),
+        Operator::GreaterOrEqual => fitting(interval::sized::greater_or_equal(size, i, j)),
         Operator::Not => logical(i, RangeAnswer::Shows(interval::ported::logical_not(i))),
         Operator::Same => RangeAnswer::Shows(i),
         Operator::Choose => logical(i, RangeAnswer::Shows(choice(i, j, k))),

@@ -5,8 +5,9 @@ use congruence::Congruence;
 use interval::Interval;
 use refusal::Refusal;
 use sign::Sign;
+use whole::Size;
 ghost use mathlib.Core.Path.{_≡_};
-ghost use mir.Syntax.{w64};
+ghost use Rattle.whole.specs.Sized.{widthOf};
 ghost use Rattle.step.specs.Show.{showOp, inputShown, shownTold};
 
 // What is known of a step's numbers. Other crates ask it by its functions.
@@ -67,16 +68,23 @@ pub fn input(low: i64, high: i64) -> Shown
 }
 
 // What the operator shows on operands that show s, t and u.
-pub fn show(operator: Operator, s: Shown, t: Shown, u: Shown) -> ShownAnswer
-    ensures { λ r. ⌜ shownTold r ≡ showOp w64 operator s t u ⌝ }
+pub fn show(size: Size, operator: Operator, s: Shown, t: Shown, u: Shown) -> ShownAnswer
+    ensures { λ r. ⌜ shownTold r ≡ showOp (widthOf size) operator s t u ⌝ }
 {
     let i = s.range;
     let a = s.sign;
     let b = t.sign;
     let c = u.sign;
-    match crate::range::range(operator, i, t.range, u.range) {
+    match crate::range::range(size, operator, i, t.range, u.range) {
         RangeAnswer::Shows(range) => {
-            let spacing = crate::spacing::spacing(operator, i, s.spacing, t.spacing, u.spacing);
+            let spacing = crate::spacing::spacing(
+                size,
+                operator,
+                i,
+                s.spacing,
+                t.spacing,
+                u.spacing,
+            );
             let sign = crate::signs::sign(operator, i, a, b, c);
             ShownAnswer::Shows(Shown {
                 range,

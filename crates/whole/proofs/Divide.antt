@@ -3,7 +3,7 @@ use mathlib.Core.Path.{_≡_, refl, sym, ap, _∙_, subst}
 use mathlib.Core.Logic.{_≢_, _⊎_, inl, inr}
 use Prim.Native.Nat.{ℕ, zero, suc, _+_, _*_, _/_, _%_, _≤_, _<_}
 use native.Mathlib.Omega.{arith}
-use native.Mathlib.Nat.{div-add-mod', mod-lt, mod-le, zero-lt-suc, le-trans, div-mul-le-self, le-div-iff-mul-le, mul-le-mul-right, mul-le-mul-left, div-zero, zero-div, div-le-self, div-lt-self, lt-of-le-of-lt}
+use native.Mathlib.Nat.{div-add-mod', mod-lt, mod-le, zero-lt-suc, le-trans, div-mul-le-self, le-div-iff-mul-le, mul-le-mul-right, mul-le-mul-left, div-zero, zero-div, div-le-self, div-lt-self, lt-of-le-of-lt, mod-zero, mod-one, div-one}
 use lib.IntN.{ℤ, pos, negsuc, negℤ, natAbs, _+ℤ_, _-ℤ_, _*ℤ_, *ℤ-comm}
 use lib.Pow.{pow-pos}
 use lib.Signed.{_≤ℤ_, _<ℤ_, quotZ, remZ, mag-rem}
@@ -167,3 +167,22 @@ fits-quot (negsuc a) (negsuc (suc b)) h f = omega (machine, range h, div-lt-self
 
 pub fits-quot-above : (w : Width) (x d : ℤ) → SFits w x → Range.least w <ℤ x → SFits w (quotZ x d)
 fits-quot-above w x d h k = omega (machine, range h, abs (quotZ x d), natAbs-quot x d, div-le-self (natAbs x) (natAbs d), abs x, pow-pos (hbits w))
+
+-- ---- by 0, by 1 and by -1
+pub rem-zero : (x : ℤ) → remZ x (pos 0) ≡ x
+rem-zero (pos a) = ap pos (mod-zero a)
+rem-zero (negsuc a) = ap (λ t. negℤ (pos t)) (mod-zero (suc a))
+
+pub rem-minus : (x : ℤ) → remZ x (negsuc 0) ≡ pos 0
+rem-minus x = natAbs-zero (remZ x (negsuc 0)) (natAbs-rem x (negsuc 0) ∙ mod-one (natAbs x))
+
+pub quot-zero : (x : ℤ) → quotZ x (pos 0) ≡ pos 0
+quot-zero (pos a) = ap pos (div-zero a)
+quot-zero (negsuc a) = ap (λ t. negℤ (pos t)) (div-zero (suc a))
+
+quot-one : (x : ℤ) → quotZ x (pos 1) ≡ x
+quot-one (pos a) = ap pos (div-one a)
+quot-one (negsuc a) = ap (λ t. negℤ (pos t)) (div-one (suc a))
+
+pub quot-minus : (x : ℤ) → quotZ x (negsuc 0) ≡ negℤ x
+quot-minus x = quot-neg x (pos 1) ∙ ap negℤ (quot-one x)

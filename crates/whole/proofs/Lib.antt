@@ -15,3 +15,5 @@ pub mod CommonDivisor
 pub mod Congruence
 pub mod Floor
 pub mod Claims
+pub mod Found
+pub mod Sizes

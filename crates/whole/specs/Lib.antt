@@ -4,3 +4,4 @@ pub mod Whole
 pub mod Range
 pub mod Divides
 pub mod Exact
+pub mod Sized

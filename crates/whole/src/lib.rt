@@ -1,15 +1,18 @@
 // Whole numbers as i64 has them: exact sums, differences and products or that they don't fit, saturated ones, the least and
 // the greatest, the floored remainder, and the common divisor and multiple. The laws stand in proofs/.
 ghost use mathlib.Core.Path.{_≡_};
-ghost use mathlib.Core.Bool.{Bool, true, false};
+ghost use mathlib.Core.Bool.{Bool, true, false, _&&_};
 ghost use Prim.Native.Nat.{ℕ, _*_};
 ghost use lib.Dec.{leb, ltb};
 ghost use lib.IntN.{ℤ, pos, negsuc, negℤ, natAbs, _+ℤ_, _-ℤ_, _*ℤ_};
+ghost use lib.Signed.{quotZ, remZ};
 ghost use mir.Syntax.{w64};
 ghost use Rattle.whole.specs.Whole.{up, minℤ, maxℤ, min4, max4};
-ghost use Rattle.whole.specs.Range.{fits?, clamp, limitOf};
+ghost use Rattle.whole.specs.Test.{_≤?_};
+ghost use Rattle.whole.specs.Range.{least, greatest, fits?, clamp, limitOf};
 ghost use Rattle.whole.specs.Divides as divides;
 ghost use Rattle.whole.specs.Exact.{exactly};
+ghost use Rattle.whole.specs.Sized.{widthOf, heldTo};
 
 pub const MAX: i64 = 9223372036854775807;
 
@@ -205,6 +208,32 @@ pub fn saturating_mul(x: i64, y: i64) -> i64
 
 // ---- divisibility
 
+// x / d toward zero; 0 for d = 0.
+pub fn exact_quotient(x: i64, d: i64) -> Exact
+    ensures { λ r. ⌜ r ≡ exactly w64 (quotZ x d) ⌝ }
+{
+    if d == 0 {
+        return Exact::Is(0);
+    }
+    if d == -1 {
+        return exact_neg(x);
+    }
+    Exact::Is(x / d)
+}
+
+// x % m, where it can be formed; x itself for m = 0, and 0 for m = -1.
+pub fn remainder(x: i64, m: i64) -> i64
+    ensures { λ r. ⌜ r ≡ remZ x m ⌝ }
+{
+    if m == 0 {
+        return x;
+    }
+    if m == -1 {
+        return 0;
+    }
+    x % m
+}
+
 // The number from 0 to |m| - 1 that differs from x by a multiple of m; x itself if m is 0.
 pub fn floored_remainder(x: i64, m: i64) -> i64
     ensures { λ r. ⌜ r ≡ divides.floorRem x m ⌝ }
@@ -278,4 +307,119 @@ pub fn lcm(a: i64, b: i64) -> Exact
     ensures { λ r. ⌜ r ≡ exactly w64 (pos (divides.lcm (natAbs a) (natAbs b))) ⌝ }
 {
     lcm_u64(magnitude(a), magnitude(b))
+}
+
+// ---- the widths that panels have
+
+pub enum Size {
+    B16,
+    B32,
+    B64,
+}
+
+fn between(low: i64, x: i64, high: i64) -> bool
+    ensures { λ r. ⌜ r ≡ ((low ≤? x) && (x ≤? high)) ⌝ }
+{
+    if low <= x { x <= high } else { false }
+}
+
+impl Size {
+    // MIN of the width.
+    pub fn least(self) -> i64
+        ensures { λ r. ⌜ r ≡ least (widthOf self) ⌝ }
+    {
+        match self {
+            Size::B16 => -32768,
+            Size::B32 => -2147483648,
+            Size::B64 => MIN,
+        }
+    }
+
+    // MAX of the width.
+    pub fn greatest(self) -> i64
+        ensures { λ r. ⌜ r ≡ greatest (widthOf self) ⌝ }
+    {
+        match self {
+            Size::B16 => 32767,
+            Size::B32 => 2147483647,
+            Size::B64 => MAX,
+        }
+    }
+
+    // Whether x is a number of the width.
+    pub fn fits(self, x: i64) -> bool
+        ensures { λ r. ⌜ r ≡ fits? (widthOf self) x ⌝ }
+    {
+        match self {
+            Size::B16 => between(-32768, x, 32767),
+            Size::B32 => between(-2147483648, x, 2147483647),
+            Size::B64 => true,
+        }
+    }
+
+    // x, or that it doesn't fit the width.
+    pub fn exact(self, x: i64) -> Exact
+        ensures { λ r. ⌜ r ≡ exactly (widthOf self) x ⌝ }
+    {
+        if self.fits(x) {
+            Exact::Is(x)
+        } else {
+            Exact::DoesNotFit
+        }
+    }
+
+    // An exact number, if it is also one of the width.
+    pub fn held(self, e: Exact) -> Exact
+        ensures { λ r. ⌜ r ≡ heldTo (widthOf self) e ⌝ }
+    {
+        match e {
+            Exact::Is(x) => self.exact(x),
+            Exact::DoesNotFit => Exact::DoesNotFit,
+        }
+    }
+
+    // The exact results, or that they don't fit the width.
+    pub fn neg(self, x: i64) -> Exact
+        ensures { λ r. ⌜ r ≡ exactly (widthOf self) (negℤ x) ⌝ }
+    {
+        self.held(exact_neg(x))
+    }
+
+    pub fn add(self, x: i64, y: i64) -> Exact
+        ensures { λ r. ⌜ r ≡ exactly (widthOf self) (x +ℤ y) ⌝ }
+    {
+        self.held(exact_add(x, y))
+    }
+
+    pub fn sub(self, x: i64, y: i64) -> Exact
+        ensures { λ r. ⌜ r ≡ exactly (widthOf self) (x -ℤ y) ⌝ }
+    {
+        self.held(exact_sub(x, y))
+    }
+
+    pub fn mul(self, x: i64, y: i64) -> Exact
+        ensures { λ r. ⌜ r ≡ exactly (widthOf self) (x *ℤ y) ⌝ }
+    {
+        self.held(exact_mul(x, y))
+    }
+
+    pub fn quotient(self, x: i64, d: i64) -> Exact
+        ensures { λ r. ⌜ r ≡ exactly (widthOf self) (quotZ x d) ⌝ }
+    {
+        self.held(exact_quotient(x, d))
+    }
+
+    // A natural number, or that it doesn't fit the width.
+    pub fn natural(self, n: u64) -> Exact
+        ensures { λ r. ⌜ r ≡ exactly (widthOf self) (pos n) ⌝ }
+    {
+        self.held(exact_of(n))
+    }
+
+    // The least common multiple of two natural numbers, or that it doesn't fit the width.
+    pub fn lcm(self, a: u64, b: u64) -> Exact
+        ensures { λ r. ⌜ r ≡ exactly (widthOf self) (pos (divides.lcm a b)) ⌝ }
+    {
+        self.held(lcm_u64(a, b))
+    }
 }

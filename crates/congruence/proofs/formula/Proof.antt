@@ -5,17 +5,17 @@ use Rattle.congruence.specs.Numbers.{formula}
 use Rattle.congruence.proofs.formula.Statement.{statement}
 use Rattle.congruence.proofs.formula.Tie as tie
 
-exact-mul-requires : tie.Need-exact-mul-requires
-exact-mul-requires c κs = search needs
+mul-requires : tie.Need-mul-requires
+mul-requires c κs = search needs
 
-exact-mul-requires-2 : tie.Need-exact-mul-requires-2
-exact-mul-requires-2 c κs = search needs
+mul-requires-2 : tie.Need-mul-requires-2
+mul-requires-2 c κs = search needs
 
 gcd-then-requires : tie.Need-gcd-then-requires
 gcd-then-requires c κs = search needs
 
-exact-mul-requires-3 : tie.Need-exact-mul-requires-3
-exact-mul-requires-3 c κs = search needs
+mul-requires-3 : tie.Need-mul-requires-3
+mul-requires-3 c κs = search needs
 
 gcd-then-requires-2 : tie.Need-gcd-then-requires-2
 gcd-then-requires-2 c κs = search needs
@@ -28,9 +28,9 @@ pub formula-spec : {M : Type 1} → statement M
 formula-spec =
     tie.close
     (tie.spec
-    exact-mul-requires
-    exact-mul-requires-2
+    mul-requires
+    mul-requires-2
     gcd-then-requires
-    exact-mul-requires-3
+    mul-requires-3
     gcd-then-requires-2
     returns)

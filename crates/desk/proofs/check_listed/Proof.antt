@@ -1,6 +1,6 @@
 use mathlib.Core.Path.{refl}
 use native.Mathlib.Omega.{arith}
-use mir.Syntax.{w64}
+use Rattle.whole.specs.Sized.{widthOf}
 use Rattle.sheet.specs.Sheet.{stepsOf}
 use Rattle.panel.proofs.Answers.{four-each}
 use Rattle.desk.proofs.Answers.{checked-short, checked-all}
@@ -15,7 +15,7 @@ returns : tie.Need-returns
 returns c =
     let a = c .before in
     let e = four-each (a .args .steps .now) (a .args .n) (a .pre .1) in
-    rw (checked-short w64 (stepsOf (a .args .steps .now)) (a .args .room .now) (omega (arith, c .if1 .taken))) (refl, refl)
+    rw (checked-short (widthOf (a .args .size)) (stepsOf (a .args .steps .now)) (a .args .room .now) (omega (arith, c .if1 .taken))) (refl, refl)
 
 check-steps-requires : tie.Need-check-steps-requires
 check-steps-requires c κs = search needs
@@ -27,7 +27,7 @@ returns-2 : tie.Need-returns-2
 returns-2 c =
     let a = c .before .before .before .before in
     let e = four-each (a .args .steps .now) (a .args .n) (a .pre .1) in
-    rw (checked-all w64 (stepsOf (a .args .steps .now)) (a .args .room .now) (omega (arith, c .before .before .before .if1 .left))) (c .before .check-steps .ensures)
+    rw (checked-all (widthOf (a .args .size)) (stepsOf (a .args .steps .now)) (a .args .room .now) (omega (arith, c .before .before .before .if1 .left))) (c .before .check-steps .ensures)
 
 pub check-listed-spec : {M : Type 1} → statement M
 check-listed-spec = tie.close (tie.spec mul-if1 returns check-steps-requires same-length returns-2)

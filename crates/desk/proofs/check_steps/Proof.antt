@@ -2,19 +2,20 @@ use Prim.Native.Nat.{_-_, _≤_}
 use mathlib.Core.Path.{sym, ap, _∙_}
 use native.Mathlib.Omega.{arith}
 use borrow.Author.Needs.{needs}
+use Rattle.whole.specs.Sized.{widthOf}
 use Rattle.step.specs.Show.{shownTold}
 use Rattle.desk.proofs.Walk.{Walked, walked-start, walked-length, walked-next, walked-stops, walked-ends}
 use Rattle.desk.proofs.check_steps.Statement.{statement}
 use Rattle.desk.proofs.check_steps.Tie as tie
 
 abbrev Inv-loop : tie.InvT-loop
-Inv-loop steps n room₀ k₀ room k = (k ≤ n) × Walked steps room₀ room k
+Inv-loop size steps n room₀ k₀ room k = (k ≤ n) × Walked (widthOf size) steps room₀ room k
 
 abbrev μ-loop : tie.MeasureT-loop
-μ-loop steps n room₀ k₀ room k = n - k
+μ-loop size steps n room₀ k₀ room k = n - k
 
 loop-holds : tie.Need-loop-holds Inv-loop μ-loop
-loop-holds c = (search needs, walked-start (c .args .steps .now) (c .args .room .now))
+loop-holds c = (search needs, walked-start (widthOf (c .args .size)) (c .args .steps .now) (c .args .room .now))
 
 action-at-requires : tie.Need-action-at-requires Inv-loop μ-loop
 action-at-requires c κs = search needs

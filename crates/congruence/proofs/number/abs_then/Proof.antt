@@ -14,8 +14,8 @@ enum-known-x c = search needs
 magnitude-requires : tie.Need-magnitude-requires
 magnitude-requires c κs = search needs
 
-exact-of-requires : tie.Need-exact-of-requires
-exact-of-requires c κs = search needs
+natural-requires : tie.Need-natural-requires
+natural-requires c κs = search needs
 
 returns : tie.Need-returns
 returns c = search (cases, calls, values) depth 8
@@ -26,4 +26,4 @@ returns-2 c = search (cases, calls, values) depth 8
 pub abs-then-spec : {M : Type 1} → statement M
 abs-then-spec =
     tie.close
-    (tie.spec enum-told enum-known-x magnitude-requires exact-of-requires returns returns-2)
+    (tie.spec enum-told enum-known-x magnitude-requires natural-requires returns returns-2)

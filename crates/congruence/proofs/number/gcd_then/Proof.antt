@@ -17,8 +17,17 @@ enum-told-2 c = search needs
 enum-known-y : tie.Need-enum-known-y
 enum-known-y c = search needs
 
-gcd-requires : tie.Need-gcd-requires
-gcd-requires c κs = search needs
+magnitude-requires : tie.Need-magnitude-requires
+magnitude-requires c κs = search needs
+
+magnitude-requires-2 : tie.Need-magnitude-requires-2
+magnitude-requires-2 c κs = search needs
+
+gcd-u64-requires : tie.Need-gcd-u64-requires
+gcd-u64-requires c κs = search needs
+
+natural-requires : tie.Need-natural-requires
+natural-requires c κs = search needs
 
 returns : tie.Need-returns
 returns c = search (cases, calls, values) depth 8
@@ -37,7 +46,10 @@ gcd-then-spec =
     enum-known-x
     enum-told-2
     enum-known-y
-    gcd-requires
+    magnitude-requires
+    magnitude-requires-2
+    gcd-u64-requires
+    natural-requires
     returns
     returns-2
     returns-3)

@@ -9,11 +9,11 @@ use Rattle.congruence.proofs.ported.divided_by.Tie as tie
 divisible-requires : tie.Need-divisible-requires
 divisible-requires c κs = search needs
 
-quotient-requires : tie.Need-quotient-requires
-quotient-requires c κs = search needs
+exact-quotient-requires : tie.Need-exact-quotient-requires
+exact-quotient-requires c κs = search needs
 
-quotient-requires-2 : tie.Need-quotient-requires-2
-quotient-requires-2 c κs = search needs
+exact-quotient-requires-2 : tie.Need-exact-quotient-requires-2
+exact-quotient-requires-2 c κs = search needs
 
 asserted-requires : tie.Need-asserted-requires
 asserted-requires c κs = search needs
@@ -31,8 +31,8 @@ divided-by-spec =
     tie.close
     (tie.spec
     divisible-requires
-    quotient-requires
-    quotient-requires-2
+    exact-quotient-requires
+    exact-quotient-requires-2
     asserted-requires
     returns
     returns-2)

@@ -3,7 +3,7 @@ use Prim.Native.Nat.{ℕ, _<_}
 use native.Mathlib.Omega.{arith}
 use lib.IntN.{natAbs, pos}
 use mir.Facts.{toZ-ofZ}
-use mir.Syntax.{w64}
+use mir.Syntax.{Width, w64}
 use mir.Val.{SFits}
 use borrow.Author.Needs.{needs}
 use Rattle.whole.proofs.Decides.{yes, no}
@@ -12,8 +12,9 @@ use Rattle.whole.proofs.Flags.{was-true, eq-false, was-false, eq-true}
 use Rattle.whole.proofs.Linear.{ints, from-≢}
 use Rattle.whole.specs.Divides.{gcd, Cong, lcm}
 use Rattle.whole.specs.Exact.{exactly}
+use Rattle.whole.specs.Sized.{widthOf}
 use Rattle.congruence.proofs.Calls.{alike-call}
-use Rattle.congruence.proofs.Cases.{found-is, not-found, found-fits}
+use Rattle.whole.proofs.Found.{found-is, not-found, found-fits}
 use Rattle.congruence.proofs.Classes.{alike-test, overlap-none, overlap-zero, moduli-ready, moduli-met, overlap-is, over-some, overlap-some}
 use Rattle.congruence.proofs.Values.{values, built}
 use Rattle.congruence.specs.Mended.{found}
@@ -24,6 +25,9 @@ use Rattle.congruence.proofs.residue.overlap.Tie as tie
 
 abbrev start : tie.After-alike → tie.Start
 start d = d .before .before .before .before
+
+abbrev wide : tie.Start → Width
+wide s = widthOf (s .args .size)
 
 p-is : (d : tie.After-magnitude2) → d .before .magnitude .result ≡ natAbs (d .before .before .args .m)
 p-is d = simp (toZ-ofZ (d .before .before .fits .m)) at (d .before .magnitude .ensures)
@@ -40,15 +44,15 @@ alike-is d =
 agree : (d : tie.Else1) → Cong (gcd (natAbs (start (d .before) .args .m)) (natAbs (start (d .before) .args .n))) (start (d .before) .args .c) (start (d .before) .args .e)
 agree d = yes (alike-test _ _ _) (was-true (alike-is (d .before)) (d .if1 .left))
 
-lcm-found : (d : tie.After-lcm-u64) → d .lcm-u64 .result ≡ exactly w64 (pos (lcm (natAbs (start (d .before .before) .args .m)) (natAbs (start (d .before .before) .args .n))))
-lcm-found d = let m2 = d .before .before .before .before in d .lcm-u64 .ensures ∙ ap₂ (λ x y. exactly w64 (pos (lcm x y))) (p-is m2) (q-is m2)
+lcm-found : (d : tie.After-lcm) → d .lcm .result ≡ exactly (wide (start (d .before .before))) (pos (lcm (natAbs (start (d .before .before) .args .m)) (natAbs (start (d .before .before) .args .n))))
+lcm-found d = let m2 = d .before .before .before .before in d .lcm .ensures ∙ ap₂ (λ x y. exactly (wide (start (d .before .before))) (pos (lcm x y))) (p-is m2) (q-is m2)
 
 -- the lcm that was found
 abbrev found-at : tie.Else2 → ℕ
 found-at c = let s = start (c .before .before .before .before .before .before) in lcm (natAbs (s .args .m)) (natAbs (s .args .n))
 
 found-l : (c : tie.Else2) → c .before .before .l .given .0 .0 ≡ pos (found-at c)
-found-l c = let d = c .before .before .before .before in found-is w64 (pos (found-at c)) (c .before .before .l .given .0 .0) (sym (lcm-found d) ∙ c .before .before .l .given .1)
+found-l c = let d = c .before .before .before .before in found-is (wide (start (d .before .before))) (pos (found-at c)) (c .before .before .l .given .0 .0) (sym (lcm-found d) ∙ c .before .before .l .given .1)
 
 some : (c : tie.Else2) → 0 < found-at c
 some c =
@@ -78,10 +82,10 @@ alike-requires c κs = search needs
 returns : tie.Need-returns
 returns c =
     let s = start (c .before) in
-    sym (overlap-none w64 (cong (s .args .c) (s .args .m)) (cong (s .args .e) (s .args .n)) (no (alike-test (gcd (natAbs (s .args .m)) (natAbs (s .args .n))) (s .args .c) (s .args .e)) (was-false (alike-is (c .before)) (c .if1 .taken))))
+    sym (overlap-none (wide s) (cong (s .args .c) (s .args .m)) (cong (s .args .e) (s .args .n)) (no (alike-test (gcd (natAbs (s .args .m)) (natAbs (s .args .n))) (s .args .c) (s .args .e)) (was-false (alike-is (c .before)) (c .if1 .taken))))
 
-lcm-u64-requires : tie.Need-lcm-u64-requires
-lcm-u64-requires c κs = search needs
+lcm-requires : tie.Need-lcm-requires
+lcm-requires c κs = search needs
 
 enum-told : tie.Need-enum-told
 enum-told c = search needs
@@ -95,8 +99,8 @@ returns-2 c =
     let s = start (d .before .before) in
     let k : SFits w64 (c .before .before .l .given .0 .0) = search values in
     let z = eq-true k zero-fits (c .if2 .taken) in
-    let i = found-is w64 (pos (lcm (natAbs (s .args .m)) (natAbs (s .args .n)))) (c .before .before .l .given .0 .0) (sym (lcm-found d) ∙ c .before .before .l .given .1) in
-    sym (overlap-zero w64 (cong (s .args .c) (s .args .m)) (cong (s .args .e) (s .args .n)) (omega ints))
+    let i = found-is (wide s) (pos (lcm (natAbs (s .args .m)) (natAbs (s .args .n)))) (c .before .before .l .given .0 .0) (sym (lcm-found d) ∙ c .before .before .l .given .1) in
+    sym (overlap-zero (wide s) (cong (s .args .c) (s .args .m)) (cong (s .args .e) (s .args .n)) (omega ints))
 
 shared-requires : tie.Need-shared-requires
 shared-requires c κs =
@@ -122,9 +126,9 @@ returns-3 c =
     let d = c .before .before in
     let s = start (d .before .before) in
     let f = s .fits in
-    let i = not-found w64 (pos (lcm (natAbs (s .args .m)) (natAbs (s .args .n)))) (sym (lcm-found d) ∙ (cc)) in
+    let i = not-found (wide s) (pos (lcm (natAbs (s .args .m)) (natAbs (s .args .n)))) (sym (lcm-found d) ∙ (cc)) in
     built _ _ _ _ (toZ-ofZ (f .c)) (toZ-ofZ (f .m))
-    ∙ sym (overlap-is w64 (cong (s .args .c) (s .args .m)) (cong (s .args .e) (s .args .n)) (agree (d .before)) (over-some w64 (lcm (natAbs (s .args .m)) (natAbs (s .args .n))) i) ∙ rw i refl)
+    ∙ sym (overlap-is (wide s) (cong (s .args .c) (s .args .m)) (cong (s .args .e) (s .args .n)) (agree (d .before)) (over-some (wide s) (lcm (natAbs (s .args .m)) (natAbs (s .args .n))) i) ∙ rw i refl)
 
 returns-4 : tie.Need-returns-4
 returns-4 c =
@@ -137,9 +141,9 @@ returns-4 c =
     let r : SFits w64 (c .signed .result) = search values in
     let e = moduli-met (m2 .before .magnitude .result) (m2 .magnitude2 .result) (natAbs (s .args .m)) (natAbs (s .args .n)) (s .args .c) (s .args .e) (p-is m2) (q-is m2) (pos (z .shared .result)) (z .shared .result) (simp (toZ-ofZ (f .c), toZ-ofZ (f .e)) at (z .shared .ensures)) in
     let i = sym (lcm-found d) ∙ z .before .before .before .l .given .1 in
-    built _ _ _ _ (toZ-ofZ r ∙ c .signed .ensures) (toZ-ofZ k ∙ found-is w64 (pos (lcm (natAbs (s .args .m)) (natAbs (s .args .n)))) (z .before .before .before .l .given .0 .0) i)
-    ∙ sym (overlap-some w64 (cong (s .args .c) (s .args .m)) (cong (s .args .e) (s .args .n)) (z .shared .result) (e .0) (e .1) (e .2)
-    ∙ rw (found-fits w64 (pos (lcm (natAbs (s .args .m)) (natAbs (s .args .n)))) (z .before .before .before .l .given .0 .0) i) refl)
+    built _ _ _ _ (toZ-ofZ r ∙ c .signed .ensures) (toZ-ofZ k ∙ found-is (wide s) (pos (lcm (natAbs (s .args .m)) (natAbs (s .args .n)))) (z .before .before .before .l .given .0 .0) i)
+    ∙ sym (overlap-some (wide s) (cong (s .args .c) (s .args .m)) (cong (s .args .e) (s .args .n)) (z .shared .result) (e .0) (e .1) (e .2)
+    ∙ rw (found-fits (wide s) (pos (lcm (natAbs (s .args .m)) (natAbs (s .args .n)))) (z .before .before .before .l .given .0 .0) i) refl)
 
 pub overlap-spec : {M : Type 1} → statement M
 overlap-spec =
@@ -150,7 +154,7 @@ overlap-spec =
     gcd-u64-requires
     alike-requires
     returns
-    lcm-u64-requires
+    lcm-requires
     enum-told
     enum-known-l
     returns-2

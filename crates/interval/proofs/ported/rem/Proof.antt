@@ -1,7 +1,8 @@
 use borrow.Author.Needs.{needs}
+use Rattle.whole.specs.declared.Size.the-variants.{B64}
 use Rattle.whole.proofs.Flags.{flags}
 use Rattle.interval.specs.Ported.{rem}
-use Rattle.interval.proofs.Remainder.{not-zero, or-second, single-called}
+use Rattle.interval.proofs.Remainder.{single-called}
 use Rattle.interval.proofs.Calls.{asked}
 use Rattle.interval.proofs.ported.rem.Statement.{statement}
 use Rattle.interval.proofs.ported.rem.Tie as tie
@@ -11,24 +12,24 @@ rem-nothing-requires c κs = search needs
 
 returns : tie.Need-returns
 unfolding rem
-returns c = search (single-called, asked, flags) depth 8 fits 5000
+returns c = search (single-called B64, asked, flags) depth 8 fits 5000
 
 both-single-requires : tie.Need-both-single-requires
 both-single-requires c κs = search needs
 
 single-rem-requires : tie.Need-single-rem-requires
-single-rem-requires c κs = search (not-zero, or-second, flags) depth 8 fits 5000
+single-rem-requires c κs = search needs
 
 returns-2 : tie.Need-returns-2
 unfolding rem
-returns-2 c = search (single-called, asked, flags) depth 8 fits 5000
+returns-2 c = search (single-called B64, asked, flags) depth 8 fits 5000
 
 rem-large-requires : tie.Need-rem-large-requires
 rem-large-requires c κs = search needs
 
 returns-3 : tie.Need-returns-3
 unfolding rem
-returns-3 c = search (single-called, asked, flags) depth 8 fits 5000
+returns-3 c = search (single-called B64, asked, flags) depth 8 fits 5000
 
 pub rem-spec : {M : Type 1} → statement M
 rem-spec =

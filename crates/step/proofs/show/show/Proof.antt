@@ -1,5 +1,5 @@
 use mathlib.Core.Path.{_≡_, refl, sym, ap, _∙_}
-use mir.Syntax.{w64}
+use Rattle.whole.specs.Sized.{widthOf}
 use Rattle.step.specs.Range.{shows, declines, rangeOp}
 use Rattle.step.specs.Told.{rangeTold}
 use Rattle.step.specs.Show.{showOp}
@@ -24,11 +24,11 @@ enum-known-r c = search needs
 
 returns : tie.Need-returns
 unfolding showOp
-returns c = let a = c .before .before .before .before .before .before .before .args in let e : rangeOp w64 (a .operator) (a .s .range) (a .t .range) (a .u .range) ≡ rangeTold (c .before .before .before .before .before .range .result) = sym (c .before .before .before .before .before .range .ensures) in rw (e, c .before .before .before .range2 .given .1) (cc)
+returns c = let a = c .before .before .before .before .before .before .before .args in let e : rangeOp (widthOf (a .size)) (a .operator) (a .s .range) (a .t .range) (a .u .range) ≡ rangeTold (c .before .before .before .before .before .range .result) = sym (c .before .before .before .before .before .range .ensures) in rw (e, c .before .before .before .range2 .given .1) (cc)
 
 returns-2 : tie.Need-returns-2
 unfolding showOp
-returns-2 c = let a = c .before .before .before .before .before .args in let e : rangeOp w64 (a .operator) (a .s .range) (a .t .range) (a .u .range) ≡ rangeTold (c .before .before .before .range .result) = sym (c .before .before .before .range .ensures) in rw (e, c .before .r .given .1) (refl)
+returns-2 c = let a = c .before .before .before .before .before .args in let e : rangeOp (widthOf (a .size)) (a .operator) (a .s .range) (a .t .range) (a .u .range) ≡ rangeTold (c .before .before .before .range .result) = sym (c .before .before .before .range .ensures) in rw (e, c .before .r .given .1) (refl)
 
 pub show-spec : {M : Type 1} → statement M
 show-spec =
