@@ -119,8 +119,8 @@ pub(crate) fn take_all(line: &[u8], at: usize) -> Signs {
 
 fn of_none(op: Op) -> Answer {
     match op {
-        Op::Top => Answer::Sign(Sign::TOP),
-        Op::Bottom => Answer::Sign(Sign::BOTTOM),
+        Op::Top => Answer::Sign(sign::top()),
+        Op::Bottom => Answer::Sign(sign::bottom()),
         _ => Answer::NotUnderstood,
     }
 }

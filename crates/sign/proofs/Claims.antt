@@ -1,41 +1,40 @@
--- What document 01 says of signs, over whole numbers: exact, least, covering; and where the Rust is wrong by those sets, with the pair.
+-- What document 01 says of signs, over whole numbers: exact, least, covering; and of their mended twins.
 -- Assumes nothing.
 use mathlib.Core.Path.{_≡_, refl, sym, ap, subst, _∙_}
 use mathlib.Core.Logic.{_≢_, _↔_, _⊎_, inl, inr}
 use mathlib.Core.Bool.{Bool, true, false, _&&_, _||_}
 use Prim.Native.Nat.{ℕ}
 use native.Mathlib.Omega.{arith}
-use lib.Dec.{eqb}
-use lib.IntN.{ℤ, pos, negsuc, negℤ, _+ℤ_, _-ℤ_, _*ℤ_, negℤ-negℤ}
+use lib.IntN.{ℤ, pos, negℤ, _+ℤ_, _-ℤ_, _*ℤ_, negℤ-negℤ}
 use lib.Signed.{quotZ, remZ}
-use Rattle.whole.specs.Choice.{pick}
 use Rattle.whole.specs.Test.{_≤?_, _<?_, _≟_, truth}
 use Rattle.whole.specs.Whole.{_≼_, _≺_}
-use Rattle.whole.specs.declared.Order.the-variants.{Less, Greater, None}
+use Rattle.whole.specs.declared.Order.the-variants.{None}
 use Rattle.whole.proofs.Decides.{branch, le-test, lt-test, eq-test}
 use Rattle.whole.proofs.Linear.{ints}
 use Rattle.sign.specs.declared.Sign.{Sign}
 use Rattle.sign.specs.declared.Sign.the-variants.{Top, Bottom, Negative, Zero, Positive, NonNeg, NonZero, NonPos}
 use Rattle.refusal.specs.Number.{numberOf}
+use Rattle.refusal.specs.Answer.{is, refused}
 use Rattle.refusal.proofs.Claims.{number-tells}
 use Rattle.sign.specs.declared.SignAnswer.{SignAnswer}
 use Rattle.sign.specs.declared.SignAnswer.the-variants.{Is, Refused}
 use Rattle.sign.specs.Set.{sideOf, _has_, _∈_}
-use Rattle.sign.specs.Sides.{filled, _inside_, _same_}
-use Rattle.sign.specs.Index.{indexOf}
-use Rattle.sign.specs.Numbers.{Least₁, Least, _≻_, _≽_, Ordered, Strict, Weak, Judged}
+use Rattle.sign.specs.Sides.{withNought}
+use Rattle.sign.specs.Numbers.{Least₁, Least, LeastOver, _≻_, _≽_, Ordered, Strict, Weak, Judged}
 use Rattle.sign.specs.Numbers as numbers
-use Rattle.sign.specs.Answer.{is, refusedBy, said}
+use Rattle.sign.specs.Logical.{Combined, Equated, Turned}
+use Rattle.sign.specs.Logical as logical
+use Rattle.sign.specs.Answer.{said}
 use Rattle.sign.specs.Ported as ported
-use Rattle.sign.specs.Ported.{ofNumber, join, meet, partialCmp, add, neg, sub, mul, rem, logicalEq, logicalAnd, logicalOr, strictCmp}
+use Rattle.sign.specs.Ported.{ofNumber, join, meet, partialCmp, widen, narrow, add, neg, sub, mul, rem, logicalEq, logicalAnd, logicalOr, strictCmp}
 use Rattle.sign.specs.Mended as mended
 use Rattle.sign.specs.Mended.{equals, less, greater, lessOrEqual, greaterOrEqual}
-use Rattle.sign.specs.Wrong.{listed, exchanged, missing0, overlapping, Shared, Missed}
-use Rattle.sign.proofs.Cells.{differ, exactly, told-same, tests, rules, orders, signs}
-use Rattle.sign.proofs.Truths.{judged-has, kept}
-use Rattle.sign.proofs.Quotients.{rem-in, quot-in, missed, mended-adds-0, ported-adds-0}
-use Rattle.sign.proofs.Laws.{was, unpicked, or-elim, or-right, join-has, side-only, side-itself, and-both, and-of, inside-test, told-covers, told-reach, least-by, products}
-use Rattle.sign.proofs.Differences.{add-covers, add-reach, neg-covers, neg-back, sub-covers, sub-reach, meet-has, shared, by-less, by-equal, by-greater, by-at-most, by-at-least, strict-by, weak-by, judged-by}
+use Rattle.sign.proofs.Cells.{differ, rules, signs}
+use Rattle.sign.proofs.Truths.{judged-has, kept, is-same, tells-either, picked, surely-test, combined}
+use Rattle.sign.proofs.Quotients.{rem-in, rem-reached, quot-in, mended-adds-0}
+use Rattle.sign.proofs.Laws.{was, or-elim, or-right, join-has, side-only, side-itself, and-both, and-of, inside-test, told-covers, told-reach, least-by, products}
+use Rattle.sign.proofs.Differences.{add-covers, add-reach, neg-covers, neg-back, sub-covers, sub-reach, meet-has, by-less, by-equal, by-greater, by-at-most, by-at-least, strict-by, weak-by, judged-by}
 
 -- ---- the sign of a number
 
@@ -70,6 +69,10 @@ order-exact a b =
     branch (inside-test a b) (Ordered a b)
     (λ h. branch (inside-test b a) (Ordered a b) (λ k. numbers.Ordered.equal h k) (λ k. numbers.Ordered.less h k))
     (λ h. branch (inside-test b a) (Ordered a b) (λ k. numbers.Ordered.greater h k) (λ k. numbers.Ordered.none h k))
+
+-- the defaults answer the new value
+pub defaults-answer-new : (new previous : Sign) → (widen new previous ≡ new) × (narrow new previous ≡ new)
+defaults-answer-new new previous = (refl, refl)
 
 -- ---- arithmetic: the least sign over whole numbers, for all 64 pairs
 
@@ -119,18 +122,44 @@ pub greater-or-equal-exact : (a b : Sign) → Judged _≽_ a b (greaterOrEqual a
 unfolding greaterOrEqual
 greater-or-equal-exact a b = judged-by a b by-at-least
 
--- an empty side gives both, whatever the relation
+-- an empty side gives both
 sub-empty : (a : Sign) → sub a Bottom ≡ Bottom
 unfolding sub add neg
 sub-empty a = rules signs (λ a b. sub a Bottom) (λ a b. Bottom) tt a a
 
-pub empty-gives-both : (r a : Sign) → (mended.judged r (sub a Bottom) ≡ NonNeg) × (mended.judged r (sub Bottom a) ≡ NonNeg)
+empty-judged : (r a : Sign) → (mended.judged r (sub a Bottom) ≡ NonNeg) × (mended.judged r (sub Bottom a) ≡ NonNeg)
 unfolding sub add neg
-empty-gives-both r a = (rw (sub-empty a) refl, refl)
+empty-judged r a = (rw (sub-empty a) refl, refl)
 
-pub strict-none-beside-bottom : (a : Sign) → (strictCmp a Bottom ≡ None) × (strictCmp Bottom a ≡ None)
-unfolding strictCmp sub add neg
-strict-none-beside-bottom a = (rw (sub-empty a) refl, refl)
+module _ (a : Sign) where
+  pub equals-empty : (equals a Bottom ≡ NonNeg) × (equals Bottom a ≡ NonNeg)
+  unfolding equals
+  equals-empty = empty-judged Zero a
+
+  pub less-empty : (less a Bottom ≡ NonNeg) × (less Bottom a ≡ NonNeg)
+  unfolding less
+  less-empty = empty-judged Negative a
+
+  pub greater-empty : (greater a Bottom ≡ NonNeg) × (greater Bottom a ≡ NonNeg)
+  unfolding greater
+  greater-empty = empty-judged Positive a
+
+  pub less-or-equal-empty : (lessOrEqual a Bottom ≡ NonNeg) × (lessOrEqual Bottom a ≡ NonNeg)
+  unfolding lessOrEqual
+  less-or-equal-empty = empty-judged NonPos a
+
+  pub greater-or-equal-empty : (greaterOrEqual a Bottom ≡ NonNeg) × (greaterOrEqual Bottom a ≡ NonNeg)
+  unfolding greaterOrEqual
+  greater-or-equal-empty = empty-judged NonNeg a
+
+  pub strict-none-beside-bottom : (strictCmp a Bottom ≡ None) × (strictCmp Bottom a ≡ None)
+  unfolding strictCmp sub add neg
+  strict-none-beside-bottom = (rw (sub-empty a) refl, refl)
+
+-- true, false and both among 0 and 1
+pub truth-signs : (p : Bool) → ((truth p ∈ Positive) ↔ (p ≡ true)) × ((truth p ∈ Zero) ↔ (p ≡ false)) × (truth p ∈ NonNeg)
+truth-signs true = ((λ _. refl, λ _. record { is = refl }), (λ h. was refl (sym (h .is)), λ e. was refl e), record { is = refl })
+truth-signs false = ((λ h. was (h .is) refl, λ e. was e refl), (λ _. refl, λ _. record { is = refl }), record { is = refl })
 
 -- what a comparison shows has the truth of every pair
 module _ (a b : Sign) (x y : ℤ) (h : x ∈ a) (k : y ∈ b) where
@@ -155,12 +184,44 @@ pub rem-covers : (a b : Sign) (x y : ℤ) → x ∈ a → y ∈ b → y ≢ pos 
 unfolding rem
 rem-covers a b x y h k f = rem-in a x y h
 
-pub mended-div-covers : (a b : Sign) (x y : ℤ) → x ∈ a → y ∈ b → y ≢ pos 0 → quotZ x y ∈ mended.div a b
+-- where the divisor may be other than 0, no smaller sign covers; elsewhere the answer is the same
+pub rem-least : (a b : Sign) (y : ℤ) → y ∈ b → y ≢ pos 0 → LeastOver remZ a b (rem a b)
+unfolding rem
+rem-least a b y h f = record { covers = rem-covers a b; least = λ t g. record { each = λ x k. record { is = rem-reached a b t y h f g (sideOf x) (k .is) } } }
+
+pub rem-by-left : (a b c : Sign) → rem a b ≡ rem a c
+unfolding rem
+rem-by-left a b c = refl
+
+-- as ported, with Top for NonZero
+pub mended-div-is : (a b : Sign) → ((ported.div a b ≡ NonZero) → (mended.div a b ≡ Top)) × ((ported.div a b ≢ NonZero) → (mended.div a b ≡ ported.div a b))
+unfolding mended.div
+mended-div-is a b = picked (is-same (ported.div a b) NonZero)
+
+-- where the product lies, or 0; so Bottom beside Bottom
+pub mended-div-by-product : (a b : Sign) → mended.div a b ≡ withNought (mul a b)
 unfolding mended.div ported.div
-mended-div-covers a b x y h k f = rw (mended-adds-0 (mul a b)) (quot-in a b x y h k f)
+mended-div-by-product a b = mended-adds-0 (mul a b)
 
--- ---- logic on 0 and 1
+pub mended-div-bottom : (a : Sign) → (mended.div a Bottom ≡ Bottom) × (mended.div Bottom a ≡ Bottom)
+unfolding mended.div ported.div mul
+mended-div-bottom a = (rules signs (λ a b. mended.div a Bottom) (λ a b. Bottom) tt a a, refl)
 
+pub mended-div-covers : (a b : Sign) (x y : ℤ) → x ∈ a → y ∈ b → y ≢ pos 0 → quotZ x y ∈ mended.div a b
+mended-div-covers a b x y h k f = rw (mended-div-by-product a b) (quot-in a b x y h k f)
+
+-- ---- logic
+
+-- and, or: Zero decides and, Positive decides or; the other, where both operands are it; else NonNeg
+pub and-is : (a b : Sign) → Combined Zero Positive a b (logicalAnd a b)
+unfolding logicalAnd
+and-is a b = combined Zero Positive a b
+
+pub or-is : (a b : Sign) → Combined Positive Zero a b (logicalOr a b)
+unfolding logicalOr
+or-is a b = combined Positive Zero a b
+
+-- the truth of every two truth values
 pub and-covers : (a b : Sign) (p q : Bool) → truth p ∈ a → truth q ∈ b → truth (p && q) ∈ logicalAnd a b
 unfolding logicalAnd
 and-covers a b true true = kept logicalAnd (pos 1) (pos 1) (pos 1) tt a b
@@ -175,19 +236,18 @@ or-covers a b true false = kept logicalOr (pos 1) (pos 0) (pos 1) tt a b
 or-covers a b false true = kept logicalOr (pos 0) (pos 1) (pos 1) tt a b
 or-covers a b false false = kept logicalOr (pos 0) (pos 0) (pos 0) tt a b
 
--- not is right on 0 and on 1
-pub mended-not-right : (s : Sign) → (pos 0 ∈ s → pos 1 ∈ mended.logicalNot s) × (pos 1 ∈ s → pos 0 ∈ mended.logicalNot s)
-unfolding mended.logicalNot
-mended-not-right s = (
-  λ h. kept (λ a b. mended.logicalNot a) (pos 0) (pos 0) (pos 1) tt s s h h,
-  λ h. kept (λ a b. mended.logicalNot a) (pos 1) (pos 1) (pos 0) tt s s h h,
-)
+pub eq-is : (a b : Sign) (isBool : Bool) → Equated a b isBool (logicalEq a b isBool)
+unfolding logicalEq
+eq-is a b isBool =
+    branch (surely-test a b isBool) (Equated a b isBool) logical.Equated.sure
+    (λ n. branch (tells-either (inside-test a b) (inside-test b a)) (Equated a b isBool) (logical.Equated.maybe n) (logical.Equated.apart n))
 
-is-no-refusal : {s : Sign} {n : ℕ} → is s ≡ refusedBy n → ⊥
+-- not
+is-no-refusal : {s : Sign} {n : ℕ} → is s ≡ refused n → ⊥
 is-no-refusal e = let z : _≡_ {A = ℕ} 0 1 = cc in omega arith
 
--- the ported one is refused by 4 on the other five signs, and on no more
-pub ported-not-refuses : (s : Sign) → (ported.logicalNot s ≡ refusedBy 4) ↔ ((s ≢ NonNeg) × (s ≢ Positive) × (s ≢ Zero))
+-- the ported one is refused by 4 on five signs, and on no more
+pub ported-not-refuses : (s : Sign) → (ported.logicalNot s ≡ refused 4) ↔ ((s ≢ NonNeg) × (s ≢ Positive) × (s ≢ Zero))
 unfolding ported.logicalNot
 ported-not-refuses Top = (λ e. (differ Top NonNeg tt, differ Top Positive tt, differ Top Zero tt), λ e. refl)
 ported-not-refuses Bottom = (λ e. (differ Bottom NonNeg tt, differ Bottom Positive tt, differ Bottom Zero tt), λ e. refl)
@@ -198,63 +258,32 @@ ported-not-refuses NonNeg = (λ e. absurd (is-no-refusal e), λ e. absurd (e .0 
 ported-not-refuses Positive = (λ e. absurd (is-no-refusal e), λ e. absurd (e .1 refl))
 ported-not-refuses Zero = (λ e. absurd (is-no-refusal e), λ e. absurd (e .2 refl))
 
+pub ported-not-answers : (ported.logicalNot Zero ≡ is Positive) × (ported.logicalNot Positive ≡ is Zero) × (ported.logicalNot NonNeg ≡ is NonNeg)
+unfolding ported.logicalNot
+ported-not-answers = (refl, refl, refl)
+
+-- the mended one: Bottom for Bottom, NonNeg for the other four, as ported elsewhere; right on 0 and on 1
+pub mended-not-is : (s : Sign) → Turned s (ported.logicalNot s) (mended.logicalNot s)
+unfolding ported.logicalNot mended.logicalNot
+mended-not-is Top = logical.Turned.four (differ Top Bottom tt)
+mended-not-is Bottom = logical.Turned.bottom refl
+mended-not-is Negative = logical.Turned.four (differ Negative Bottom tt)
+mended-not-is Zero = logical.Turned.as-ported
+mended-not-is Positive = logical.Turned.as-ported
+mended-not-is NonNeg = logical.Turned.as-ported
+mended-not-is NonZero = logical.Turned.four (differ NonZero Bottom tt)
+mended-not-is NonPos = logical.Turned.four (differ NonPos Bottom tt)
+
+pub mended-not-right : (s : Sign) → (pos 0 ∈ s → pos 1 ∈ mended.logicalNot s) × (pos 1 ∈ s → pos 0 ∈ mended.logicalNot s)
+unfolding mended.logicalNot
+mended-not-right s = (
+  λ h. kept (λ a b. mended.logicalNot a) (pos 0) (pos 0) (pos 1) tt s s h h,
+  λ h. kept (λ a b. mended.logicalNot a) (pos 1) (pos 1) (pos 0) tt s s h h,
+)
+
 -- what an answer says fixes it
 pub said-fixes : (r s : SignAnswer) → said r ≡ said s → r ≡ s
 said-fixes (Is s) (Is t) e = cc
 said-fixes (Is s) (Refused r) e = absurd (is-no-refusal e)
 said-fixes (Refused r) (Is s) e = absurd (is-no-refusal (sym e))
 said-fixes (Refused r) (Refused q) e = let k : numberOf r ≡ numberOf q = cc in ap Refused (number-tells r q k)
-
--- ---- where the Rust is wrong by those sets
-
--- 1: the weak comparison has its two cells exchanged, and is right elsewhere
-pub weak-exchanged : (ported.weakCmp Zero NonNeg ≡ mended.weakCmp Zero NonPos) × (ported.weakCmp Zero NonPos ≡ mended.weakCmp Zero NonNeg)
-unfolding ported.weakCmp mended.weakCmp sub add neg
-weak-exchanged = (refl, refl)
-
-pub weak-right-elsewhere : (a b : Sign) → listed exchanged a b ≡ false → ported.weakCmp a b ≡ mended.weakCmp a b
-unfolding ported.weakCmp mended.weakCmp sub add neg
-weak-right-elsewhere a b h =
-    unpicked (listed exchanged a b) Less (ported.weakCmp a b) (mended.weakCmp a b) h
-    (rules orders (λ a b. pick (listed exchanged a b) Less (ported.weakCmp a b)) (λ a b. pick (listed exchanged a b) Less (mended.weakCmp a b)) tt a b)
-
--- it says that 0 is at least 1, and that 0 is at most -1
-pub weak-wrong-NonNeg : (ported.weakCmp Zero NonNeg ≡ Greater) × (pos 0 ∈ Zero) × (pos 1 ∈ NonNeg) × (pos 0 ≺ pos 1)
-unfolding ported.weakCmp sub add neg
-weak-wrong-NonNeg = (refl, record { is = refl }, record { is = refl }, omega ints)
-
-pub weak-wrong-NonPos : (ported.weakCmp Zero NonPos ≡ Less) × (pos 0 ∈ Zero) × (negsuc 0 ∈ NonPos) × (negsuc 0 ≺ pos 0)
-unfolding ported.weakCmp sub add neg
-weak-wrong-NonPos = (refl, record { is = refl }, record { is = refl }, omega ints)
-
--- 2: a quotient is NonZero for five pairs, those whose product is; there it misses 0, and is right elsewhere
-pub div-wrong-pairs : (a b : Sign) → (ported.div a b ≡ NonZero) ↔ (listed missing0 a b ≡ true)
-unfolding ported.div mul
-div-wrong-pairs a b = exactly ported.div NonZero (listed missing0) tt a b
-
-pub div-wrong-products : (a b : Sign) → (mul a b ≡ NonZero) ↔ (listed missing0 a b ≡ true)
-unfolding mul
-div-wrong-products a b = exactly mul NonZero (listed missing0) tt a b
-
-pub div-wrong : (a b : Sign) → listed missing0 a b ≡ true → Missed a b (ported.div a b)
-div-wrong a b h = missed a b (ported.div a b) (div-wrong-products a b .1 h) (div-wrong-pairs a b .1 h)
-
-pub one-half-is-0 : quotZ (pos 1) (pos 2) ≡ pos 0
-one-half-is-0 = refl
-
-pub div-right-elsewhere : (a b : Sign) → listed missing0 a b ≡ false → (x y : ℤ) → x ∈ a → y ∈ b → y ≢ pos 0 → quotZ x y ∈ ported.div a b
-unfolding ported.div
-div-right-elsewhere a b l x y h k f = rw (ported-adds-0 (mul a b) (λ e. was (div-wrong-products a b .0 e) l)) (quot-in a b x y h k f)
-
--- 3: logical_eq answers Zero for two signs that share a number just for six pairs
-eq-test-of : (a b : Sign) (isBool : Bool) → (eqb (indexOf (logicalEq a b isBool)) 3 && filled (meet a b)) ≡ listed overlapping a b
-unfolding logicalEq meet
-eq-test-of a b true = tests (λ a b. eqb (indexOf (logicalEq a b true)) 3 && filled (meet a b)) (listed overlapping) tt a b
-eq-test-of a b false = tests (λ a b. eqb (indexOf (logicalEq a b false)) 3 && filled (meet a b)) (listed overlapping) tt a b
-
-pub eq-wrong : (a b : Sign) (isBool : Bool) → ((logicalEq a b isBool ≡ Zero) × Shared a b) ↔ (listed overlapping a b ≡ true)
-eq-wrong a b isBool = (
-  λ h. sym (eq-test-of a b isBool) ∙ and-of (told-same (logicalEq a b isBool) Zero .0 (h .0)) (shared a b .1 (h .1)),
-  λ h. let k = and-both (eqb (indexOf (logicalEq a b isBool)) 3) (filled (meet a b)) (eq-test-of a b isBool ∙ h) in
-      (told-same (logicalEq a b isBool) Zero .1 (k .0), shared a b .0 (k .1)),
-)

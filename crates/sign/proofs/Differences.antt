@@ -3,9 +3,7 @@
 use mathlib.Core.Path.{_≡_, refl, sym, ap, _∙_}
 use mathlib.Core.Logic.{_↔_}
 use mathlib.Core.Bool.{Bool, true, false, _&&_}
-use Prim.Native.Nat.{zero, suc}
-use lib.IntN.{ℤ, pos, negsuc, negℤ, _+ℤ_, _-ℤ_, negℤ-negℤ}
-use lib.Signed.{_≤ℤ_, _<ℤ_}
+use lib.IntN.{ℤ, negℤ, _+ℤ_, _-ℤ_, negℤ-negℤ}
 use Rattle.whole.specs.Whole.{_≼_, _≺_}
 use Rattle.whole.proofs.Decides.{Decides, holds, fails, weaken, branch}
 use Rattle.whole.proofs.Linear.{ints, sub as sub-parts}
@@ -19,7 +17,8 @@ use Rattle.sign.specs.Mended.{judged}
 use Rattle.sign.specs.Numbers.{Every, _≻_, _≽_, Not, Strict, Weak, Judged}
 use Rattle.sign.specs.Numbers as numbers
 use Rattle.sign.specs.Wrong.{Shared}
-use Rattle.sign.proofs.Laws.{was, decide, and-both, and-of, those-has, some-found, far, far-in, side-below, side-at, side-above, from-inside, to-inside, filled-by, Reach, told-covers, told-reach, least-by, sums, side-neg}
+use Rattle.sign.proofs.ClaimsSet.{stands-for}
+use Rattle.sign.proofs.Laws.{was, decide, and-both, and-of, those-has, some-found, far, far-in, from-inside, to-inside, filled-by, Reach, told-covers, told-reach, least-by, sums, side-neg}
 
 -- ---- sums, negation, differences
 
@@ -126,41 +125,6 @@ module _ (a b : Sign) where
 
 -- ---- relations between numbers, by where the difference lies
 
-in-Negative : (z : ℤ) → z ∈ Negative → z <ℤ pos 0
-in-Negative (negsuc k) h = omega ints
-in-Negative (pos zero) h = was (h .is) refl
-in-Negative (pos (suc k)) h = was (h .is) refl
-
-in-Zero : (z : ℤ) → z ∈ Zero → z ≡ pos 0
-in-Zero (negsuc k) h = was (h .is) refl
-in-Zero (pos zero) h = refl
-in-Zero (pos (suc k)) h = was (h .is) refl
-
-in-Positive : (z : ℤ) → z ∈ Positive → pos 0 <ℤ z
-in-Positive (negsuc k) h = was (h .is) refl
-in-Positive (pos zero) h = was (h .is) refl
-in-Positive (pos (suc k)) h = omega ints
-
-in-NonPos : (z : ℤ) → z ∈ NonPos → z ≤ℤ pos 0
-in-NonPos (negsuc k) h = omega ints
-in-NonPos (pos zero) h = omega ints
-in-NonPos (pos (suc k)) h = was (h .is) refl
-
-in-NonNeg : (z : ℤ) → z ∈ NonNeg → pos 0 ≤ℤ z
-in-NonNeg (negsuc k) h = was (h .is) refl
-in-NonNeg (pos zero) h = omega ints
-in-NonNeg (pos (suc k)) h = omega ints
-
-to-NonPos : (z : ℤ) → z ≤ℤ pos 0 → z ∈ NonPos
-to-NonPos (negsuc k) h = record { is = refl }
-to-NonPos (pos zero) h = record { is = refl }
-to-NonPos (pos (suc k)) h = absurd (omega ints)
-
-to-NonNeg : (z : ℤ) → pos 0 ≤ℤ z → z ∈ NonNeg
-to-NonNeg (negsuc k) h = absurd (omega ints)
-to-NonNeg (pos zero) h = record { is = refl }
-to-NonNeg (pos (suc k)) h = record { is = refl }
-
 -- R is told by the difference's place in r
 pub record By (R : ℤ → ℤ → Type 0) (r : Sign) : Type 0 where
   pub to : (x y : ℤ) → R x y → Lies r x y
@@ -168,32 +132,32 @@ pub record By (R : ℤ → ℤ → Type 0) (r : Sign) : Type 0 where
 
 pub by-less : By _≺_ Negative
 by-less = record {
-  to = λ x y h. record { is = rw (side-below (x -ℤ y) (omega (ints, sub-parts x y))) refl };
-  from = λ x y h. omega (ints, sub-parts x y, in-Negative (x -ℤ y) h);
+  to = λ x y h. stands-for Negative (x -ℤ y) .1 (omega (ints, sub-parts x y));
+  from = λ x y h. omega (ints, sub-parts x y, stands-for Negative (x -ℤ y) .0 h);
 }
 
 pub by-equal : By _≡_ Zero
 by-equal = record {
-  to = λ x y h. record { is = rw (side-at (x -ℤ y) (omega (ints, sub-parts x y))) refl };
-  from = λ x y h. omega (ints, sub-parts x y, in-Zero (x -ℤ y) h);
+  to = λ x y h. stands-for Zero (x -ℤ y) .1 (omega (ints, sub-parts x y));
+  from = λ x y h. omega (ints, sub-parts x y, stands-for Zero (x -ℤ y) .0 h);
 }
 
 pub by-greater : By _≻_ Positive
 by-greater = record {
-  to = λ x y h. record { is = rw (side-above (x -ℤ y) (omega (ints, sub-parts x y))) refl };
-  from = λ x y h. omega (ints, sub-parts x y, in-Positive (x -ℤ y) h);
+  to = λ x y h. stands-for Positive (x -ℤ y) .1 (omega (ints, sub-parts x y));
+  from = λ x y h. omega (ints, sub-parts x y, stands-for Positive (x -ℤ y) .0 h);
 }
 
 pub by-at-most : By _≼_ NonPos
 by-at-most = record {
-  to = λ x y h. to-NonPos (x -ℤ y) (omega (ints, sub-parts x y));
-  from = λ x y h. omega (ints, sub-parts x y, in-NonPos (x -ℤ y) h);
+  to = λ x y h. stands-for NonPos (x -ℤ y) .1 (omega (ints, sub-parts x y));
+  from = λ x y h. omega (ints, sub-parts x y, stands-for NonPos (x -ℤ y) .0 h);
 }
 
 pub by-at-least : By _≽_ NonNeg
 by-at-least = record {
-  to = λ x y h. to-NonNeg (x -ℤ y) (omega (ints, sub-parts x y));
-  from = λ x y h. omega (ints, sub-parts x y, in-NonNeg (x -ℤ y) h);
+  to = λ x y h. stands-for NonNeg (x -ℤ y) .1 (omega (ints, sub-parts x y));
+  from = λ x y h. omega (ints, sub-parts x y, stands-for NonNeg (x -ℤ y) .0 h);
 }
 
 every-map : {R S : ℤ → ℤ → Type 0} {a b : Sign} → ((x y : ℤ) → R x y → S x y) → Every R a b → Every S a b

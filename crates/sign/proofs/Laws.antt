@@ -209,13 +209,19 @@ filled-by s x h = some-of (λ d. s has d) (sideOf x) (h .is)
 
 -- ---- its own sides and 0
 
+pub with-nought : (s : Sign) → ((withNought s has negative) ≡ (s has negative)) × ((withNought s has nought) ≡ filled s) × ((withNought s has positive) ≡ (s has positive))
+with-nought s = (made negative, made nought, made positive)
+  where
+    made : (d : Side) → (withNought s has d) ≡ at d (s has negative) (filled s) (s has positive)
+    made = sign-has (s has negative) (filled s) (s has positive)
+
 pub own-side : (s : Sign) (d : Side) → (s has d) ≡ true → (withNought s has d) ≡ true
-own-side s negative h = sign-has (s has negative) (filled s) (s has positive) negative ∙ h
-own-side s nought h = sign-has (s has negative) (filled s) (s has positive) nought ∙ some-of (λ d. s has d) nought h
-own-side s positive h = sign-has (s has negative) (filled s) (s has positive) positive ∙ h
+own-side s negative h = with-nought s .0 ∙ h
+own-side s nought h = with-nought s .1 ∙ some-of (λ d. s has d) nought h
+own-side s positive h = with-nought s .2 ∙ h
 
 pub nought-side : (s : Sign) (d : Side) → (s has d) ≡ true → (withNought s has nought) ≡ true
-nought-side s d h = sign-has (s has negative) (filled s) (s has positive) nought ∙ some-of (λ d. s has d) d h
+nought-side s d h = with-nought s .1 ∙ some-of (λ d. s has d) d h
 
 -- ---- the sides that an operation reaches
 

@@ -1,7 +1,9 @@
 pub mod Cells
 pub mod Keys
 pub mod Laws
+pub mod ClaimsSet
 pub mod Differences
 pub mod Quotients
 pub mod Truths
 pub mod Claims
+pub mod ClaimsWrong

@@ -1,6 +1,6 @@
 -- Where truncated remainders and quotients lie: a remainder on the dividend's side or at 0, a quotient where the product lies or at 0.
 -- Assumes nothing.
-use mathlib.Core.Path.{_≡_, refl}
+use mathlib.Core.Path.{_≡_, refl, sym, subst, _∙_}
 use mathlib.Core.Logic.{_≢_, _⊎_, inl, inr}
 use mathlib.Core.Bool.{true}
 use Prim.Native.Nat.{ℕ, zero, suc, _/_}
@@ -13,11 +13,11 @@ use Rattle.whole.proofs.Linear.{ints, neg as neg-parts}
 use Rattle.sign.specs.declared.Sign.{Sign}
 use Rattle.sign.specs.declared.Sign.the-variants.{Top, Bottom, Negative, Zero, Positive, NonNeg, NonZero, NonPos}
 use Rattle.sign.specs.Set.{Side, negative, nought, positive, sideOf, _has_, _∈_}
-use Rattle.sign.specs.Sides.{withNought, product}
-use Rattle.sign.specs.Ported.{mul, quotient}
+use Rattle.sign.specs.Sides.{each, withNought, product}
+use Rattle.sign.specs.Ported.{ofSide, mul, quotient}
 use Rattle.sign.specs.Mended.{topForNonZero}
 use Rattle.sign.specs.Wrong.{Missed}
-use Rattle.sign.proofs.Laws.{was, From, reached-from, side-at, own-side, nought-side, reached-by}
+use Rattle.sign.proofs.Laws.{was, From, reached-from, side-at, side-only, each-at, some-found, far, far-in, with-nought, own-side, nought-side, reached-by}
 
 -- z lies on the side d, or is 0
 abbrev Near : Side → ℤ → Type 0
@@ -46,6 +46,61 @@ rem-near (pos (suc k)) y = near-positive (remZ (pos (suc k)) y) (rem-nonneg (pos
 
 pub rem-in : (s : Sign) (x y : ℤ) → x ∈ s → remZ x y ∈ withNought s
 rem-in s x y h = near-in s (sideOf x) (remZ x y) (h .is) (rem-near x y)
+
+-- on the side of a divisor that isn't 0: the number next to 0 leaves no remainder, the one after it leaves 1 and -1
+record Divisor (b : Sign) : Type 0 where
+  one : ℤ
+  two : ℤ
+  in-one : one ∈ b
+  in-two : two ∈ b
+  one-not-0 : one ≢ pos 0
+  two-not-0 : two ≢ pos 0
+  none : (p : Side) → sideOf (remZ (far nought p) one) ≡ nought
+  kept : (p : Side) → sideOf (remZ (far nought p) two) ≡ p
+
+-- two rules of sides that answer alike at each side
+each-side : (f g : Side → Side) → each (λ p. ofSide (g p) has f p) ≡ true → (p : Side) → f p ≡ g p
+each-side f g t p = side-only (g p) (f p) (each-at (λ p. ofSide (g p) has f p) t p)
+
+divisor-of : (b : Sign) (y : ℤ) → y ∈ b → y ≢ pos 0 → Divisor b
+divisor-of b (negsuc k) h f = record {
+  one = negsuc 0;
+  two = negsuc 1;
+  in-one = record { is = h .is };
+  in-two = record { is = h .is };
+  one-not-0 = omega ints;
+  two-not-0 = omega ints;
+  none = each-side (λ p. sideOf (remZ (far nought p) (negsuc 0))) (λ p. nought) refl;
+  kept = each-side (λ p. sideOf (remZ (far nought p) (negsuc 1))) (λ p. p) refl;
+}
+divisor-of b (pos zero) h f = absurd (f refl)
+divisor-of b (pos (suc k)) h f = record {
+  one = pos 1;
+  two = pos 2;
+  in-one = record { is = h .is };
+  in-two = record { is = h .is };
+  one-not-0 = omega ints;
+  two-not-0 = omega ints;
+  none = each-side (λ p. sideOf (remZ (far nought p) (pos 1))) (λ p. nought) refl;
+  kept = each-side (λ p. sideOf (remZ (far nought p) (pos 2))) (λ p. p) refl;
+}
+
+-- where there is such a divisor, each side is reached
+pub rem-reached : (a b t : Sign) (y : ℤ) → y ∈ b → y ≢ pos 0 → ((x y : ℤ) → x ∈ a → y ∈ b → y ≢ pos 0 → remZ x y ∈ t) → (d : Side) → (withNought a has d) ≡ true → (t has d) ≡ true
+rem-reached a b t y h f g = by
+  where
+    v : Divisor b
+    v = divisor-of b y h f
+
+    stays : (p : Side) → (a has p) ≡ true → (t has p) ≡ true
+    stays p k = subst (λ (e : Side). (t has e) ≡ true) (v .kept p) (g (far nought p) (v .two) (far-in a nought p k) (v .in-two) (v .two-not-0) .is)
+
+    by : (d : Side) → (withNought a has d) ≡ true → (t has d) ≡ true
+    by negative k = stays negative (sym (with-nought a .0) ∙ k)
+    by nought k =
+        let w = some-found (λ d. a has d) (sym (with-nought a .1) ∙ k) in
+        subst (λ (e : Side). (t has e) ≡ true) (v .none (w .side)) (g (far nought (w .side)) (v .one) (far-in a nought (w .side) (w .passes)) (v .in-one) (v .one-not-0) .is)
+    by positive k = stays positive (sym (with-nought a .2) ∙ k)
 
 -- ---- quotients
 

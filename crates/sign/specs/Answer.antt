@@ -1,14 +1,10 @@
 -- What an answer that may refuse says: the sign, or the number that document 01 gives the refusal.
-use Prim.Native.Nat.{ℕ}
 use Rattle.refusal.specs.Number.{numberOf}
+use Rattle.refusal.specs.Answer.{Answer, is, refused}
 use Rattle.sign.specs.declared.Sign.{Sign}
 use Rattle.sign.specs.declared.SignAnswer.{SignAnswer}
 use Rattle.sign.specs.declared.SignAnswer.the-variants.{Is, Refused}
 
-pub data Said : Type 0 where
-  is : Sign → Said
-  refusedBy : ℕ → Said
-
-abbrev pub said : SignAnswer → Said
+abbrev pub said : SignAnswer → Answer Sign
 said (Is s) = is s
-said (Refused r) = refusedBy (numberOf r)
+said (Refused r) = refused (numberOf r)

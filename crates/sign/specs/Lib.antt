@@ -6,4 +6,5 @@ pub mod Compared
 pub mod Answer
 pub mod Ported
 pub mod Mended
+pub mod Logical
 pub mod Wrong

@@ -1,13 +1,25 @@
--- What the claims say of the numbers that signs stand for: one sign inside another, the least sign of results, how every two
--- numbers compare, and answers that are exact.
+-- What the claims say of the numbers that signs stand for: each sign by the order of the whole numbers, one sign inside another,
+-- the least sign of results, how every two numbers compare, and answers that are exact.
 use mathlib.Core.Path.{_≡_}
-use lib.IntN.{ℤ}
+use mathlib.Core.Logic.{_≢_}
+use lib.IntN.{ℤ, pos}
 use Rattle.whole.specs.Whole.{_≼_, _≺_}
 use Rattle.whole.specs.declared.Order.{Order}
 use Rattle.whole.specs.declared.Order.the-variants.{Less, Equal, Greater, None}
 use Rattle.sign.specs.declared.Sign.{Sign}
-use Rattle.sign.specs.declared.Sign.the-variants.{Zero, Positive, NonNeg}
+use Rattle.sign.specs.declared.Sign.the-variants.{Top, Bottom, Negative, Zero, Positive, NonNeg, NonZero, NonPos}
 use Rattle.sign.specs.Set.{_∈_}
+
+-- what its name says of x
+abbrev pub StandsFor : Sign → ℤ → Type 0
+StandsFor Top x = Unit
+StandsFor Bottom x = ⊥
+StandsFor Negative x = x ≺ pos 0
+StandsFor Zero x = x ≡ pos 0
+StandsFor Positive x = pos 0 ≺ x
+StandsFor NonNeg x = pos 0 ≼ x
+StandsFor NonZero x = x ≢ pos 0
+StandsFor NonPos x = x ≼ pos 0
 
 -- each number of s is one of t
 infix 4 _⊑_
@@ -23,6 +35,11 @@ pub record Least₁ (f : ℤ → ℤ) (a s : Sign) : Type 0 where
 pub record Least (f : ℤ → ℤ → ℤ) (a b s : Sign) : Type 0 where
   pub covers : (x y : ℤ) → x ∈ a → y ∈ b → f x y ∈ s
   pub least : (t : Sign) → ((x y : ℤ) → x ∈ a → y ∈ b → f x y ∈ t) → s ⊑ t
+
+-- over divisors that aren't 0
+pub record LeastOver (f : ℤ → ℤ → ℤ) (a b s : Sign) : Type 0 where
+  pub covers : (x y : ℤ) → x ∈ a → y ∈ b → y ≢ pos 0 → f x y ∈ s
+  pub least : (t : Sign) → ((x y : ℤ) → x ∈ a → y ∈ b → y ≢ pos 0 → f x y ∈ t) → s ⊑ t
 
 -- ---- R holds between every number of a and every number of b, and there are such numbers
 
@@ -66,7 +83,7 @@ pub data Weak (a b : Sign) : Order → Type 0 where
   greater : Every _≽_ a b → (Every _≡_ a b → ⊥) → Weak a b Greater
   none : (Every _≼_ a b → ⊥) → (Every _≽_ a b → ⊥) → Weak a b None
 
--- true if R holds for every pair, false if for none, else both
+-- true (Positive) if R holds for every pair, false (Zero) if for none, else both (NonNeg)
 pub data Judged (R : ℤ → ℤ → Type 0) (a b : Sign) : Sign → Type 0 where
   holds : Every R a b → Judged R a b Positive
   fails : Every (Not R) a b → Judged R a b Zero

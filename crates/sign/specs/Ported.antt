@@ -4,12 +4,12 @@ use lib.IntN.{ℤ}
 use Rattle.whole.specs.Choice.{pick}
 use Rattle.whole.specs.declared.Order.{Order}
 use Rattle.whole.specs.declared.Order.the-variants.{Less, Equal, Greater, None}
+use Rattle.refusal.specs.Answer.{Answer, is, refused}
 use Rattle.sign.specs.declared.Sign.{Sign}
 use Rattle.sign.specs.declared.Sign.the-variants.{Negative, Zero, Positive, NonNeg, NonPos}
 use Rattle.sign.specs.Set.{Side, negative, nought, positive, sideOf, _has_}
 use Rattle.sign.specs.Sides.{those, _inside_, _same_, withNought, opposite, sum, product, reached}
 use Rattle.sign.specs.Compared.{strictly, weakly}
-use Rattle.sign.specs.Answer.{Said, is, refusedBy}
 
 -- ---- the sign of a number
 
@@ -80,8 +80,8 @@ unfoldable pub logicalOr : Sign → Sign → Sign
 logicalOr a b = pick ((a same Positive) || (b same Positive)) Positive (pick ((a same Zero) && (b same Zero)) Zero NonNeg)
 
 -- refused by 4 on the five signs on which the Rust panics
-unfoldable pub logicalNot : Sign → Said
-logicalNot s = pick (s same NonNeg) (is NonNeg) (pick (s same Positive) (is Zero) (pick (s same Zero) (is Positive) (refusedBy 4)))
+unfoldable pub logicalNot : Sign → Answer Sign
+logicalNot s = pick (s same NonNeg) (is NonNeg) (pick (s same Positive) (is Zero) (pick (s same Zero) (is Positive) (refused 4)))
 
 -- ---- how their numbers compare, by where the differences lie
 

@@ -43,3 +43,16 @@ NonPos has positive = false
 infix 4 _∈_
 pub record _∈_ (x : ℤ) (s : Sign) : Type 0 where
   pub is : (s has sideOf x) ≡ true
+
+-- every number, and no number
+abbrev pub top : Sign
+top = Top
+
+abbrev pub bottom : Sign
+bottom = Bottom
+
+-- the one sign that has just these sides
+pub record Subset (f : Side → Bool) : Type 0 where
+  pub sign : Sign
+  pub sides : (d : Side) → (sign has d) ≡ f d
+  pub only : (s : Sign) → ((d : Side) → (s has d) ≡ f d) → s ≡ sign

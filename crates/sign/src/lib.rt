@@ -1,6 +1,7 @@
 // The signs: the eight subsets of {negative, zero, positive}.
 ghost use mathlib.Core.Path.{_≡_};
 ghost use Rattle.sign.specs.Index.{indexOf};
+ghost use Rattle.sign.specs.Set as sets;
 ghost use Rattle.sign.specs.Ported as ports;
 
 pub mod mended;
@@ -36,6 +37,20 @@ impl Sign {
 pub enum SignAnswer {
     Is(Sign),
     Refused(Refusal),
+}
+
+// Every number: the constant, by a call.
+pub fn top() -> Sign
+    ensures { λ r. ⌜ r ≡ sets.top ⌝ }
+{
+    Sign::TOP
+}
+
+// No number.
+pub fn bottom() -> Sign
+    ensures { λ r. ⌜ r ≡ sets.bottom ⌝ }
+{
+    Sign::BOTTOM
 }
 
 // The sign's place in the Rust's order.

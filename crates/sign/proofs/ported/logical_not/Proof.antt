@@ -3,8 +3,8 @@
 use mathlib.Core.Path.{_≡_, refl}
 use mathlib.Core.List.{[], _∷_}
 use borrow.Author.Needs.{needs}
+use Rattle.refusal.specs.Answer.{is, refused}
 use Rattle.sign.specs.declared.Sign.the-variants.{Zero, Positive, NonNeg}
-use Rattle.sign.specs.Answer.{is, refusedBy}
 use Rattle.sign.specs.Ported.{logicalNot}
 use Rattle.sign.proofs.Keys.{arm}
 use Rattle.sign.proofs.ported.logical_not.Statement.{statement}
@@ -33,7 +33,7 @@ returns-3 c = arm (λ s. is Positive ≡ logicalNot s) (3 ∷ []) (refl, tt) (c 
 
 returns-4 : tie.Need-returns-4
 unfolding logicalNot
-returns-4 c = arm (λ s. refusedBy 4 ≡ logicalNot s) (0 ∷ 1 ∷ 2 ∷ 6 ∷ 7 ∷ []) (refl, (refl, (refl, (refl, (refl, tt))))) (c .before .args .a) (c .match .keys4)
+returns-4 c = arm (λ s. refused 4 ≡ logicalNot s) (0 ∷ 1 ∷ 2 ∷ 6 ∷ 7 ∷ []) (refl, (refl, (refl, (refl, (refl, tt))))) (c .before .args .a) (c .match .keys4)
 
 pub logical-not-spec : {M : Type 1} → statement M
 logical-not-spec = tie.close (tie.spec enum-told enum-told-2 enum-told-3 returns returns-2 returns-3 returns-4)
