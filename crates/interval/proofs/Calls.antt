@@ -5,7 +5,7 @@ use lib.IntN.{ℤ}
 use Rattle.whole.specs.Test.{_≟_}
 use borrow.Author.Tests.{ne-eqb}
 use Rattle.whole.specs.Choice.{pick}
-use Rattle.whole.specs.Range.{least, greatest}
+use Rattle.whole.specs.Range.{fits?}
 use Rattle.whole.specs.Sized.{widthOf}
 use Rattle.whole.specs.declared.Size.{Size}
 use Rattle.whole.proofs.Flags.{bools, told, was-false, was-true, and-yes, and-no, and-no-2, or-yes, or-yes-2, or-no}
@@ -14,7 +14,7 @@ use Rattle.interval.specs.declared.IntervalAnswer.{IntervalAnswer}
 use Rattle.interval.specs.Answer.{Answer, is}
 use Rattle.interval.specs.Answer as A
 use Rattle.interval.specs.Mended.{strict, lenient, verdict, filled}
-use Rattle.interval.specs.Set.{Interval, _⋯_, isBottom, empty?, canonical?}
+use Rattle.interval.specs.Set.{Interval, _⋯_}
 
 pub made : (a b m n : ℤ) → a ≡ m → b ≡ n → _≡_ {A = Interval} (a ⋯ b) (m ⋯ n)
 made a b m n p q = rw (p, q) refl
@@ -39,12 +39,8 @@ pub ruleset ands = (and-is, and-is-no, ne-eqb, bools)
 pub ends-called : (i : Interval) (k l m n : ℤ) (r : Bool) → r ≡ ((i .min ≟ k) && (i .max ≟ m)) → k ≡ l → m ≡ n → r ≡ ((i .min ≟ l) && (i .max ≟ n))
 ends-called i k l m n r h p q = rw (p, q) at h
 
--- ---- canonical, by the code's test
-pub canonical-no : (s : Size) (i : Interval) (r : Bool) → empty? i ≡ true → r ≡ isBottom (widthOf s) i → r ≡ canonical? (widthOf s) i
-canonical-no s i r h e = rw h e
-
-pub canonical-yes : (s : Size) (i : Interval) → empty? i ≡ false → true ≡ canonical? (widthOf s) i
-canonical-yes s i h = rw h refl
+pub fits-called : (s : Size) (x m : ℤ) (r : Bool) → r ≡ fits? (widthOf s) m → m ≡ x → r ≡ fits? (widthOf s) x
+fits-called s = called-1 (fits? (widthOf s))
 
 pub ruleset asked = (told, was-false, was-true, and-yes, and-no, and-no-2, or-yes, or-yes-2, or-no)
 

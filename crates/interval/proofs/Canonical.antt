@@ -5,10 +5,13 @@ use mathlib.Core.Bool.{true, false}
 use lib.IntN.{ℤ}
 use lib.Signed.{_≤ℤ_, _<ℤ_}
 use mir.Syntax.{Width}
+use mir.Val.{SFits}
 use Rattle.whole.specs.Range.{least, greatest}
 use Rattle.whole.proofs.Linear.{ints}
-use Rattle.whole.proofs.Decides.{Decides, both, lt-test, eq-test, is-true, is-false}
+use Rattle.whole.proofs.Fits.{fits, low, high}
+use Rattle.whole.proofs.Decides.{Decides, both, branch, lt-test, eq-test, fits-test, is-fit, is-true, is-false, yes}
 use Rattle.interval.specs.Set.{Interval, _∈_, bottom, isBottom, empty?, canonical?, Proper, Canonical, some, none}
+use Rattle.interval.proofs.Calls.{made}
 use Rattle.interval.proofs.Rem.{signs}
 
 -- an interval with a number is not empty
@@ -36,9 +39,27 @@ module _ (w : Width) where
   pub nothing : {x : ℤ} → x ∈ bottom w → ⊥
   nothing h = omega (ints, signs w)
 
+-- ---- the test decides it
+module _ (w : Width) where
+  bottom-is : empty? (bottom w) ≡ true
+  bottom-is = is-true (lt-test (least w) (greatest w)) (λ h. omega (ints, signs w))
+
+  at-bottom : {i : Interval} → IsBottom w i → Canonical w i
+  at-bottom {i} e = rw (made (i .min) (i .max) (greatest w) (least w) (e .0) (e .1)) none
+
+  some-number : {i : Interval} → i .min ≤ℤ i .max → SFits w (i .min) × SFits w (i .max) → Canonical w i
+  some-number {i} o f = some (record { ordered = o; above = low w (i .min) (f .0); below = high w (i .max) (f .1) })
+
 pub canonical-is : {w : Width} {i : Interval} → Canonical w i → canonical? w i ≡ true
-canonical-is (some p) = rw (full p)
-canonical-is {w} none = rw (is-true (lt-test (least w) (greatest w)) (λ h. omega (ints, signs w)), is-true (bottom-test w (bottom w)) (unlike w))
+unfolding canonical?
+canonical-is {w} {i} (some p) = rw (full p, is-fit (fits w (i .min) (p .above) (omega ints)), is-fit (fits w (i .max) (omega ints) (p .below)))
+canonical-is {w} none = rw (bottom-is w, is-true (bottom-test w (bottom w)) (unlike w))
+
+pub is-canonical : (w : Width) (i : Interval) → canonical? w i ≡ true → Canonical w i
+unfolding canonical?
+is-canonical w i =
+    branch (lt-test (i .max) (i .min)) (λ b. b ≡ true → Canonical w i) (λ _ h. at-bottom w (yes (bottom-test w i) h)) λ o h.
+    some-number w o (yes (both (fits-test w (i .min)) (fits-test w (i .max))) h)
 
 -- what is canonical and not bottom has a number
 pub has-number : {w : Width} {i : Interval} → Canonical w i → NotBottom w i → Proper w i

@@ -17,7 +17,7 @@ use Rattle.interval.specs.declared.IntervalAnswer.{IntervalAnswer}
 use Rattle.interval.specs.declared.IntervalAnswer.the-variants.{Is, Refused}
 use Rattle.interval.specs.declared.PairAnswer.{PairAnswer}
 use Rattle.interval.specs.declared.PairAnswer.the-variants as pair
-use Rattle.interval.specs.Set.{Interval, _⋯_, _∈_, _∉_, _⊆_, top, bottom, isOnly, empty?, canonical?, Proper, Canonical, none}
+use Rattle.interval.specs.Set.{Interval, _⋯_, _∈_, _∉_, _⊆_, top, bottom, isOnly, empty?, canonical?, Proper, Canonical, some}
 use Rattle.interval.specs.Answer.{Answer, is, refused, told, pairTold}
 use Rattle.interval.specs.Mended.{ranged, strict, lenient, neg, add, sub, mul, div, rem, remSingle, ltV, leV, eqV, lt, gt, le, ge, eq, narrow, join}
 use Rattle.interval.proofs.Test.{in-test, only-test}
@@ -25,7 +25,7 @@ use Rattle.interval.proofs.Ends.{only, Least, add-least, sub-least, mul
 use Rattle.interval.proofs.Truth as T
 use Rattle.interval.proofs.Truth.{Verdict}
 use Rattle.interval.proofs.Rem.{rem-covers, proper}
-use Rattle.interval.proofs.Canonical.{full}
+use Rattle.interval.proofs.Canonical.{full, canonical-is}
 use Rattle.interval.proofs.Narrow.{Between, between-them}
 
 -- ---- two answers that tell the same are the same, so a contract on what is told fixes the answer
@@ -48,10 +48,10 @@ pub data Exact (w : Width) (f : ℤ → ℤ → ℤ) (a b : Interval) : Answer I
 
 module _ {w : Width} {a b : Interval} (p : Proper w a) (q : Proper w b) where
   pub strict-full : (r : Answer Interval) → strict w a b r ≡ r
-  strict-full r = rw (full p, full q)
+  strict-full r = rw (canonical-is (some p), canonical-is (some q), full p, full q)
 
   pub lenient-full : (v : Interval) → lenient w a b v ≡ is v
-  lenient-full v = rw (full p, full q)
+  lenient-full v = rw (canonical-is (some p), canonical-is (some q), full p, full q)
 
   -- the range of a least range with ordered ends
   ranged-exact : {f : ℤ → ℤ → ℤ} (lo hi : ℤ) → Least f a b (lo ⋯ hi) → Exact w f a b (strict w a b (ranged w lo hi))

@@ -1,25 +1,40 @@
--- The mended operations have canonical answers.
-use mathlib.Core.Path.{_≡_}
-use mathlib.Core.Bool.{Bool, true, false, _&&_, _||_}
+-- The test of the domain, and that the mended operations have canonical answers.
+use mathlib.Core.Path.{_≡_, refl}
+use mathlib.Core.Logic.{_↔_}
+use mathlib.Core.Bool.{Bool, true, false, not, _&&_, _||_}
 use Prim.Native.Nat.{ℕ}
 use lib.IntN.{ℤ, pos}
 use lib.Signed.{_≤ℤ_, ≤ℤ-refl, remZ}
-use mir.Syntax.{Width}
+use mir.Syntax.{Width, w64}
+use mir.Val.{SFits}
 use Rattle.whole.specs.Choice.{pick}
 use Rattle.whole.specs.Test.{_≤?_, _<?_}
 use Rattle.whole.specs.Range.{least, greatest}
 use Rattle.whole.proofs.Linear.{ints}
 use Rattle.whole.proofs.Fits.{fits, low, high}
 use Rattle.whole.proofs.Divide.{fits-rem}
-use Rattle.whole.proofs.Decides.{branch, both, either, eq-test, lt-test, is-true}
-use Rattle.interval.specs.Set.{Interval, _⋯_, top, bottom, empty?, canonical?, Proper, Canonical, some, none}
+use Rattle.whole.proofs.Decides.{branch, both, either, eq-test, lt-test, is-true, is-fit}
+use Rattle.interval.specs.Set.{Interval, _⋯_, top, bottom, empty?, isBottom, inWidth?, canonical?, Proper, Canonical, some, none}
 use Rattle.interval.specs.Answer.{Answer, is, refused}
 use Rattle.interval.specs.Mended.{strict, lenient, verdict, neg, add, sub, mul, div, rem, remSingle, eq, lt, gt, le, ge, narrowed, filled, narrow}
 use Rattle.interval.proofs.Test.{in-test, only-test}
 use Rattle.interval.proofs.Rem.{proper, signs, one-fits, rem-proper}
-use Rattle.interval.proofs.Canonical.{full, bottom-test, bottom-empty, canonical-is, in-width}
-use Rattle.interval.proofs.Filled.{filled-canonical}
+use Rattle.interval.proofs.Canonical.{full, bottom-test, bottom-empty, canonical-is, is-canonical, in-width}
+use Rattle.interval.proofs.Fill.{filled-canonical}
 use Rattle.interval.proofs.Claims.{Exact, fitting, too-wide, strict-full, neg-exact, add-exact, sub-exact, mul-exact}
+
+-- ---- the test that every mended operation makes first decides whether an interval is canonical
+pub canonical-test : (w : Width) (i : Interval) → (canonical? w i ≡ true) ↔ Canonical w i
+canonical-test w i = (is-canonical w i, canonical-is)
+
+-- every pair of 64-bit numbers has its ends in the width: there it is min at most max, or bottom
+pub canonical-64 : {i : Interval} → SFits w64 (i .min) → SFits w64 (i .max) → canonical? w64 i ≡ (not (empty? i) || isBottom w64 i)
+unfolding canonical?
+canonical-64 {i} f g = go (empty? i)
+  where
+    go : (p : Bool) → pick p (isBottom w64 i) (inWidth? w64 i) ≡ (not p || isBottom w64 i)
+    go true = refl
+    go false = rw (is-fit f, is-fit g)
 
 pub data Well (w : Width) : Answer Interval → Type 0 where
   shown : {v : Interval} → Canonical w v → Well w (is v)
@@ -35,7 +50,7 @@ bottom-is w = is-true (lt-test (least w) (greatest w)) (λ h. omega (ints, botto
 -- a side that is bottom gives bottom
 strict-well : {w : Width} {a b : Interval} → Canonical w a → Canonical w b → (r : Answer Interval) → (Proper w a → Proper w b → Well w (strict w a b r)) → Well w (strict w a b r)
 strict-well (some p) (some q) r f = f p q
-strict-well {w} (some p) none r f = rw (full p, canonical-is {w = w} none, bottom-is w) (shown none)
+strict-well {w} (some p) none r f = rw (canonical-is (some p), full p, canonical-is {w = w} none, bottom-is w) (shown none)
 strict-well {w} none d r f = rw (canonical-is {w = w} none, canonical-is d, bottom-is w) (shown none)
 
 pub neg-canonical : {w : Width} {a : Interval} → Canonical w a → Well w (neg w a)

@@ -20,7 +20,7 @@ use Rattle.interval.specs.Mended.{filled}
 use Rattle.interval.specs.Ported.{mayEqualWhen, meet, apart, pair, lessLeft, lessRight, maybeLessWhen, leLeft, leRight, maybeLeWhen, singleton, sameOne, weakCmp, leBy, geBy}
 use Rattle.interval.proofs.Ends.{low-in, high-in}
 use Rattle.interval.proofs.Canonical.{IsBottom, NotBottom, bottom-test, nothing, has-number, not-bottom}
-use Rattle.interval.proofs.Filled.{into, out-of}
+use Rattle.interval.proofs.Fill.{into, out-of}
 use Rattle.interval.proofs.ClaimsLattice.{meet-exact}
 
 -- bottom has no number, however it is known

@@ -20,7 +20,7 @@ use Rattle.interval.proofs.Calls.{made}
 use Rattle.interval.proofs.Ends.{low-in, high-in}
 use Rattle.interval.proofs.Rem.{signs}
 use Rattle.interval.proofs.Canonical.{bottom-test, nothing, in-width}
-use Rattle.interval.proofs.Filled.{into, out-of, filled-canonical}
+use Rattle.interval.proofs.Fill.{into, out-of, filled-canonical}
 use Rattle.interval.proofs.Claims.{join-left, join-right}
 
 -- ---- the join: it holds both, and nothing smaller does

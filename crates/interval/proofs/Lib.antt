@@ -8,7 +8,7 @@ pub mod Rem
 pub mod Remainder
 pub mod Canonical
 pub mod Narrow
-pub mod Filled
+pub mod Fill
 pub mod Clamp
 pub mod Claims
 pub mod ClaimsCanonical

@@ -1,10 +1,11 @@
 -- What an interval stands for, and when it is canonical, at a width.
-use mathlib.Core.Bool.{Bool, _&&_, _||_, not}
+use mathlib.Core.Bool.{Bool, _&&_}
 use mathlib.Core.Logic.{_⊎_}
 use lib.IntN.{ℤ}
 use lib.Signed.{_≤ℤ_, _<ℤ_}
 use mir.Syntax.{Width}
-use Rattle.whole.specs.Range.{least, greatest}
+use Rattle.whole.specs.Choice.{pick}
+use Rattle.whole.specs.Range.{least, greatest, fits?}
 use Rattle.whole.specs.Test.{_≤?_, _<?_, _≟_}
 pub use Rattle.interval.specs.declared.Interval.{Interval}
 
@@ -47,9 +48,12 @@ isBottom w i = (i .min ≟ greatest w) && (i .max ≟ least w)
 abbrev pub empty? : Interval → Bool
 empty? i = i .max <? i .min
 
--- min at most max, or bottom
-abbrev pub canonical? : Width → Interval → Bool
-canonical? w i = not (empty? i) || isBottom w i
+abbrev pub inWidth? : Width → Interval → Bool
+inWidth? w i = fits? w (i .min) && fits? w (i .max)
+
+-- min at most max and both numbers of the width, or bottom: the domain
+unfoldable pub canonical? : Width → Interval → Bool
+canonical? w i = pick (empty? i) (isBottom w i) (inWidth? w i)
 
 -- an interval that has a number, all of whose numbers fit
 pub record Proper (w : Width) (i : Interval) : Type 0 where

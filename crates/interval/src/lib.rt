@@ -6,13 +6,17 @@ use whole::MAX;
 use whole::MIN;
 use whole::Size;
 use whole::max_of;
+use whole::remainder;
 ghost use mathlib.Core.Path.{_≡_};
 ghost use mathlib.Core.Bool.{_&&_};
 ghost use mir.Syntax.{w64};
+ghost use Rattle.whole.specs.Choice.{pick};
 ghost use Rattle.whole.specs.Test.{_≟_};
 ghost use Rattle.whole.specs.Range.{least, greatest};
-ghost use Rattle.interval.specs.Set.{_⋯_, single, isOnly, isBottom};
-ghost use Rattle.interval.specs.Mended.{filled, verdict};
+ghost use Rattle.whole.specs.Sized.{widthOf};
+ghost use Rattle.interval.specs.Set.{_⋯_, single, isOnly, isBottom, empty?};
+ghost use Rattle.interval.specs.Answer.{told};
+ghost use Rattle.interval.specs.Mended.{filled, narrowed, remSingle, verdict};
 ghost use Rattle.interval.specs.Ends.{greatestOf};
 ghost use Rattle.interval.specs.Ported.{singleton, ofSign, sideSign, signOf};
 
@@ -126,7 +130,7 @@ impl Interval {
     fn normalize(self) -> Interval
         ensures { λ r. ⌜ r ≡ filled w64 self ⌝ }
     {
-        sized::filled(Size::B64, self)
+        filled(Size::B64, self)
     }
 }
 
@@ -195,4 +199,54 @@ fn both_single(a: Interval, b: Interval) -> bool
     ensures { λ r. ⌜ r ≡ ((a .min ≟ a .max) && (b .min ≟ b .max)) ⌝ }
 {
     a.min == a.max && b.min == b.max
+}
+
+// Whether no number lies between the ends.
+fn is_empty(a: Interval) -> bool
+    ensures { λ r. ⌜ r ≡ empty? a ⌝ }
+{
+    a.max < a.min
+}
+
+// Bottom for a pair that stands for nothing.
+fn filled(size: Size, a: Interval) -> Interval
+    ensures { λ r. ⌜ r ≡ filled (widthOf size) a ⌝ }
+{
+    if is_empty(a) { sized::bottom(size) } else { a }
+}
+
+// The new end where the previous one is the width's.
+fn end_of(infinite: i64, new: i64, previous: i64) -> i64
+    ensures { λ r. ⌜ r ≡ pick (previous ≟ infinite) new previous ⌝ }
+{
+    if previous == infinite { new } else { previous }
+}
+
+// Takes the new end where the previous one is infinite.
+fn narrowed(size: Size, new: Interval, previous: Interval) -> Interval
+    ensures { λ r. ⌜ r ≡ narrowed (widthOf size) new previous ⌝ }
+{
+    if sized::is_bottom(size, previous) {
+        return sized::bottom(size);
+    }
+    if sized::is_bottom(size, new) {
+        return sized::bottom(size);
+    }
+    Interval {
+        min: end_of(size.least(), new.min, previous.min),
+        max: end_of(size.greatest(), new.max, previous.max),
+    }
+}
+
+// The remainder of two numbers, refused where their quotient doesn't fit.
+fn single_rem(size: Size, x: i64, y: i64) -> IntervalAnswer
+    ensures { λ r. ⌜ told r ≡ remSingle (widthOf size) x y ⌝ }
+{
+    match size.quotient(x, y) {
+        Exact::Is(_) => {
+            let z = remainder(x, y);
+            IntervalAnswer::Is(Interval { min: z, max: z })
+        }
+        Exact::DoesNotFit => IntervalAnswer::Refused(Refusal::DoesNotFit),
+    }
 }

@@ -9,7 +9,8 @@ use super::Single;
 use super::TRUE_RANGE;
 use super::both_single;
 use super::greatest_of;
-use super::sized;
+use super::narrowed;
+use super::single_rem;
 use super::verdict;
 use refusal::Refusal;
 use whole::Exact;
@@ -348,7 +349,7 @@ pub fn meet(a: Interval, b: Interval) -> Interval
 pub fn narrow(new: Interval, previous: Interval) -> Interval
     ensures { λ r. ⌜ r ≡ narrowed w64 new previous ⌝ }
 {
-    sized::narrowed(Size::B64, new, previous)
+    narrowed(Size::B64, new, previous)
 }
 
 // ---- arithmetic
@@ -506,7 +507,7 @@ pub fn rem(a: Interval, b: Interval) -> IntervalAnswer
         return IntervalAnswer::Is(Interval::BOTTOM);
     }
     if both_single(a, b) {
-        return sized::single_rem(Size::B64, a.min, b.min);
+        return single_rem(Size::B64, a.min, b.min);
     }
     rem_large(a, b)
 }

@@ -1,10 +1,14 @@
-// The mended operations at a size of numbers: right by the sets. What is not canonical is refused by 1 first of all.
+// The mended operations at a size of numbers: right by the sets. What is not canonical, a number outside the width among it, is refused by 1 first of all.
 use super::BOOL_RANGE;
 use super::FALSE_RANGE;
 use super::Interval;
 use super::IntervalAnswer;
 use super::both_single;
+use super::filled;
 use super::greatest_of;
+use super::is_empty;
+use super::narrowed;
+use super::single_rem;
 use super::verdict;
 use refusal::Refusal;
 use whole::Exact;
@@ -12,7 +16,6 @@ use whole::Size;
 use whole::exact_mul;
 use whole::max_of;
 use whole::min_of;
-use whole::remainder;
 use whole::saturating_add;
 ghost use mathlib.Core.Path.{_≡_};
 ghost use mathlib.Core.Bool.{true, false, _&&_, _||_};
@@ -21,7 +24,7 @@ ghost use Rattle.whole.specs.Choice.{pick};
 ghost use Rattle.whole.specs.Whole.{maxℤ};
 ghost use Rattle.whole.specs.Test.{_≤?_, _<?_, _≟_};
 ghost use Rattle.whole.specs.Sized.{widthOf};
-ghost use Rattle.interval.specs.Set.{top, bottom, isOnly, isBottom, empty?, canonical?};
+ghost use Rattle.interval.specs.Set.{top, bottom, isOnly, isBottom, empty?, inWidth?, canonical?};
 ghost use Rattle.interval.specs.Answer.{told};
 ghost use Rattle.interval.specs.Ends.{rangeOf, leastOf, greatestOf, heldRange};
 ghost use Rattle.interval.specs.Mended as mended;
@@ -60,19 +63,13 @@ pub fn is_bottom(size: Size, a: Interval) -> bool
     has_ends(a, size.greatest(), size.least())
 }
 
-// Bottom for a pair that stands for nothing.
-pub fn filled(size: Size, a: Interval) -> Interval
-    ensures { λ r. ⌜ r ≡ mended.filled (widthOf size) a ⌝ }
-{
-    if is_empty(a) { bottom(size) } else { a }
-}
-
 // ---- what is asked first
 
-fn is_empty(a: Interval) -> bool
-    ensures { λ r. ⌜ r ≡ empty? a ⌝ }
+// Whether both ends are numbers of the width.
+fn in_width(size: Size, a: Interval) -> bool
+    ensures { λ r. ⌜ r ≡ inWidth? (widthOf size) a ⌝ }
 {
-    a.max < a.min
+    size.fits(a.min) && size.fits(a.max)
 }
 
 fn canonical(size: Size, a: Interval) -> bool
@@ -81,7 +78,7 @@ fn canonical(size: Size, a: Interval) -> bool
     if is_empty(a) {
         is_bottom(size, a)
     } else {
-        true
+        in_width(size, a)
     }
 }
 
@@ -275,19 +272,6 @@ fn rem_range(a: Interval, b: Interval) -> Interval
     remainders(a, -high, high)
 }
 
-// The remainder of two numbers, refused where their quotient doesn't fit.
-pub fn single_rem(size: Size, x: i64, y: i64) -> IntervalAnswer
-    ensures { λ r. ⌜ told r ≡ mended.remSingle (widthOf size) x y ⌝ }
-{
-    match size.quotient(x, y) {
-        Exact::Is(_) => {
-            let z = remainder(x, y);
-            IntervalAnswer::Is(Interval { min: z, max: z })
-        }
-        Exact::DoesNotFit => IntervalAnswer::Refused(Refusal::DoesNotFit),
-    }
-}
-
 fn rem_of(size: Size, a: Interval, b: Interval) -> IntervalAnswer
     requires { ⌜ empty? b ≡ false ⌝ }
     ensures { λ r. ⌜ told r ≡ mended.remOf (widthOf size) a b ⌝ }
@@ -361,29 +345,6 @@ pub fn greater_or_equal(size: Size, a: Interval, b: Interval) -> IntervalAnswer
 }
 
 // ---- narrowing
-
-// The new end where the previous one is the width's.
-fn end_of(infinite: i64, new: i64, previous: i64) -> i64
-    ensures { λ r. ⌜ r ≡ pick (previous ≟ infinite) new previous ⌝ }
-{
-    if previous == infinite { new } else { previous }
-}
-
-// Takes the new end where the previous one is infinite.
-pub fn narrowed(size: Size, new: Interval, previous: Interval) -> Interval
-    ensures { λ r. ⌜ r ≡ mended.narrowed (widthOf size) new previous ⌝ }
-{
-    if is_bottom(size, previous) {
-        return bottom(size);
-    }
-    if is_bottom(size, new) {
-        return bottom(size);
-    }
-    Interval {
-        min: end_of(size.least(), new.min, previous.min),
-        max: end_of(size.greatest(), new.max, previous.max),
-    }
-}
 
 // The ported narrowing, made bottom where it holds nothing.
 pub fn narrow(size: Size, new: Interval, previous: Interval) -> IntervalAnswer

@@ -1,6 +1,6 @@
 use Rattle.whole.proofs.Flags.{bools}
-use Rattle.interval.proofs.sized.is_empty.Statement.{statement}
-use Rattle.interval.proofs.sized.is_empty.Tie as tie
+use Rattle.interval.proofs.is_empty.Statement.{statement}
+use Rattle.interval.proofs.is_empty.Tie as tie
 
 returns : tie.Need-returns
 returns c = search bools

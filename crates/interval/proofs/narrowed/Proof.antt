@@ -2,8 +2,8 @@ use Rattle.interval.proofs.Calls.{asked, made, end-called}
 use Rattle.interval.specs.Mended.{narrowed}
 use Rattle.whole.proofs.Flags.{flags}
 use borrow.Author.Needs.{needs}
-use Rattle.interval.proofs.sized.narrowed.Statement.{statement}
-use Rattle.interval.proofs.sized.narrowed.Tie as tie
+use Rattle.interval.proofs.narrowed.Statement.{statement}
+use Rattle.interval.proofs.narrowed.Tie as tie
 
 is-bottom-requires : tie.Need-is-bottom-requires
 is-bottom-requires c κs = search needs

@@ -1,8 +1,8 @@
 use Rattle.interval.proofs.Remainder.{rem-single, rem-over}
 use Rattle.whole.proofs.Flags.{flags}
 use borrow.Author.Needs.{needs}
-use Rattle.interval.proofs.sized.single_rem.Statement.{statement}
-use Rattle.interval.proofs.sized.single_rem.Tie as tie
+use Rattle.interval.proofs.single_rem.Statement.{statement}
+use Rattle.interval.proofs.single_rem.Tie as tie
 
 quotient-requires : tie.Need-quotient-requires
 quotient-requires c κs = search needs

@@ -2,8 +2,8 @@ use Rattle.interval.proofs.Calls.{asked}
 use Rattle.interval.specs.Mended.{filled}
 use Rattle.whole.proofs.Flags.{flags}
 use borrow.Author.Needs.{needs}
-use Rattle.interval.proofs.sized.filled.Statement.{statement}
-use Rattle.interval.proofs.sized.filled.Tie as tie
+use Rattle.interval.proofs.filled.Statement.{statement}
+use Rattle.interval.proofs.filled.Tie as tie
 
 is-empty-requires : tie.Need-is-empty-requires
 is-empty-requires c κs = search needs
