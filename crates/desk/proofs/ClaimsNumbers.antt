@@ -46,7 +46,7 @@ unfolding checkFrom checkStep showOp rangeOp spacingOp signOp inputShown actions
 passes-14 = refl
 
 pub fourteen : Fourteen
-unfolding flat sign.mul sign.weakCmp sign.div sign.sub sign.add sign.neg signMended.weakCmp signMended.div range.weakCmp range.geBy range.neg range.rem range.remLarge range.remBy range.widen canonical? rangeMended.ge rangeMended.le rangeMended.verdict rangeMended.rem rangeMended.remWithin within within2 domain? bottom? form floorRem _≟_ _<?_ _≤?_ maxℤ spacing.met spacing.metClasses spacing.onTruth spacing.indivisible spacing.reduced spacing.normalize spacing.separated spacing.joined spacing.made spacing.negated spacing.asserted spacing.held spacing.divided spacing.dividedBy spacing.only? absThen gcdThen exactly fits? gcd lcm steps spacingMended.common spacingMended.beside spacingMended.overlap spacingMended.found spacingMended.has? alike? spacingMended.apart? spacingMended.joint spacingMended.classOf spacingMended.resultOf spacingMended.negative spacingMended.exactOf spacingMended.quotient spacingMended.byNumber divides?
+unfolding flat sign.mul sign.weakCmp sign.div sign.sub sign.add sign.neg signMended.weakCmp signMended.div range.weakCmp range.geBy range.neg range.rem range.remLarge range.remBy range.widen canonical? rangeMended.greaterOrEqual rangeMended.lessOrEqual rangeMended.verdict rangeMended.rem rangeMended.remWithin within within2 domain? bottom? form floorRem _≟_ _<?_ _≤?_ maxℤ spacing.met spacing.metClasses spacing.onTruth spacing.indivisible spacing.reduced spacing.normalize spacing.separated spacing.joined spacing.made spacing.negated spacing.asserted spacing.held spacing.divided spacing.dividedBy spacing.only? absThen gcdThen exactly fits? gcd lcm steps spacingMended.common spacingMended.beside spacingMended.overlap spacingMended.found spacingMended.has? alike? spacingMended.apart? spacingMended.joint spacingMended.classOf spacingMended.resultOf spacingMended.negative spacingMended.exactOf spacingMended.quotient spacingMended.byNumber divides?
 fourteen = record {
   number-1 = refl;
   number-2 = (refl, refl);

@@ -12,7 +12,7 @@ use Rattle.sign.specs.declared.Sign.the-variants.{Top, Negative, Zero, Positive
 use Rattle.sign.specs.Ported as sign
 use Rattle.sign.specs.Mended as signMended
 use Rattle.interval.specs.Set.{_⋯_, top, single}
-use Rattle.interval.specs.Answer.{is, refused}
+use Rattle.refusal.specs.Answer.{is, refused}
 use Rattle.interval.specs.Ported as range
 use Rattle.interval.specs.Mended as rangeMended
 use Rattle.congruence.specs.declared.CongruenceAnswer.the-variants.{Is}
@@ -38,7 +38,7 @@ pub record Fourteen : Type 0 where
   pub number-1 : sign.mul Negative NonZero ≡ NonZero
   pub number-2 : (sign.weakCmp Zero NonNeg ≡ Greater) × (signMended.weakCmp Zero NonNeg ≡ Less)
   pub number-3 : (sign.div Positive NonZero ≡ NonZero) × (signMended.div Positive NonZero ≡ Top)
-  pub number-4 : (range.geBy (range.weakCmp (single (pos 3)) (single (pos 3))) ≡ single (pos 0)) × (rangeMended.ge w64 (single (pos 3)) (single (pos 3)) ≡ is (single (pos 1)))
+  pub number-4 : (range.geBy (range.weakCmp (single (pos 3)) (single (pos 3))) ≡ single (pos 0)) × (rangeMended.greaterOrEqual w64 (single (pos 3)) (single (pos 3)) ≡ is (single (pos 1)))
   pub number-5 : (range.neg (single (least w64)) ≡ refused 2) × (range.neg (least w64 ⋯ pos 5) ≡ is (negsuc 4 ⋯ greatest w64))
   pub number-6 : range.rem (single (pos 0)) (pos 1 ⋯ pos 3) ≡ is (negsuc 1 ⋯ pos 0)
   pub number-7 : (range.rem (single (pos 7)) (top w64) ≡ refused 2) × (rangeMended.rem w64 (single (pos 7)) (top w64) ≡ is (pos 0 ⋯ greatest w64))

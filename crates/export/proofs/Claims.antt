@@ -8,7 +8,7 @@ use lib.Seq.{sets}
 use Rattle.whole.specs.declared.Exact.{Exact}
 use Rattle.whole.specs.declared.Exact.the-variants as exact
 use Rattle.interval.specs.declared.Interval.{Interval}
-use Rattle.interval.specs.Answer.{Answer, is, refused}
+use Rattle.refusal.specs.Answer.{Answer, is, refused}
 use Rattle.congruence.specs.declared.CongruenceAnswer.{CongruenceAnswer}
 use Rattle.congruence.specs.declared.CongruenceAnswer.the-variants.{Is, Refused}
 use Rattle.export.specs.Call.{Result, number, range, spacing, Leaves}

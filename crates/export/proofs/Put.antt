@@ -10,7 +10,7 @@ use lib.Seq.{sets}
 use Rattle.whole.proofs.Decides.{leb-test, branch}
 use Rattle.interval.specs.declared.Interval.{Interval}
 use Rattle.interval.specs.Set.{_⋯_}
-use Rattle.interval.specs.Answer.{Answer}
+use Rattle.refusal.specs.Answer.{Answer}
 use Rattle.congruence.specs.declared.Congruence.{Congruence}
 use Rattle.congruence.specs.declared.CongruenceAnswer.{CongruenceAnswer}
 use Rattle.congruence.specs.Set.{cong}

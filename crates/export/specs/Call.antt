@@ -12,7 +12,7 @@ use Rattle.whole.specs.declared.Exact.{Exact}
 use Rattle.whole.specs.declared.Exact.the-variants as exact
 use Rattle.refusal.specs.Number.{numberOf}
 use Rattle.interval.specs.declared.Interval.{Interval}
-use Rattle.interval.specs.Answer.{Answer, is, refused}
+use Rattle.refusal.specs.Answer.{Answer, is, refused}
 use Rattle.congruence.specs.declared.CongruenceAnswer.{CongruenceAnswer}
 use Rattle.congruence.specs.declared.CongruenceAnswer.the-variants.{Is, Refused}
 

@@ -11,7 +11,7 @@ use Rattle.whole.specs.declared.Size.{Size}
 use Rattle.whole.proofs.Flags.{bools, told, was-false, was-true, and-yes, and-no, and-no-2, or-yes, or-yes-2, or-no}
 use Rattle.whole.proofs.Calls.{called-1, called}
 use Rattle.interval.specs.declared.IntervalAnswer.{IntervalAnswer}
-use Rattle.interval.specs.Answer.{Answer, is}
+use Rattle.refusal.specs.Answer.{Answer, is}
 use Rattle.interval.specs.Answer as A
 use Rattle.interval.specs.Mended.{strict, lenient, verdict, filled}
 use Rattle.interval.specs.Set.{Interval, _⋯_}

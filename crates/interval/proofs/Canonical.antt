@@ -41,8 +41,11 @@ module _ (w : Width) where
 
 -- ---- the test decides it
 module _ (w : Width) where
-  bottom-is : empty? (bottom w) ≡ true
+  pub bottom-is : empty? (bottom w) ≡ true
   bottom-is = is-true (lt-test (least w) (greatest w)) (λ h. omega (ints, signs w))
+
+  pub bottom-found : isBottom w (bottom w) ≡ true
+  bottom-found = is-true (bottom-test w (bottom w)) (unlike w)
 
   at-bottom : {i : Interval} → IsBottom w i → Canonical w i
   at-bottom {i} e = rw (made (i .min) (i .max) (greatest w) (least w) (e .0) (e .1)) none
@@ -53,7 +56,7 @@ module _ (w : Width) where
 pub canonical-is : {w : Width} {i : Interval} → Canonical w i → canonical? w i ≡ true
 unfolding canonical?
 canonical-is {w} {i} (some p) = rw (full p, is-fit (fits w (i .min) (p .above) (omega ints)), is-fit (fits w (i .max) (omega ints) (p .below)))
-canonical-is {w} none = rw (bottom-is w, is-true (bottom-test w (bottom w)) (unlike w))
+canonical-is {w} none = rw (bottom-is w, bottom-found w)
 
 pub is-canonical : (w : Width) (i : Interval) → canonical? w i ≡ true → Canonical w i
 unfolding canonical?

@@ -1,32 +1,33 @@
--- What the mended operations are, by document 01's words. Set statements speak of proper intervals, those with a number and ends that fit; bottom is said apart.
+-- What the mended operations are, by document 01's words (specs/Promise.antt): each claim speaks of the operation itself, at every width and on every two intervals.
 use mathlib.Core.Path.{_≡_, refl, ap}
 use mathlib.Core.Logic.{_≢_, _⊎_, inl, inr}
-use mathlib.Core.Bool.{true, false, _&&_, _||_}
 use Prim.Native.Nat.{ℕ}
-use lib.IntN.{ℤ, pos, negℤ, _+ℤ_, _-ℤ_, _*ℤ_}
-use lib.Signed.{_≤ℤ_, _<ℤ_, quotZ, remZ}
-use mir.Syntax.{Width}
-use mir.Val.{SFits}
-use Rattle.whole.specs.Choice.{pick}
+use lib.IntN.{ℤ, negℤ, _+ℤ_, _-ℤ_, _*ℤ_}
+use lib.Signed.{_≤ℤ_, _<ℤ_}
+use mir.Syntax.{Width, w64}
 use Rattle.whole.proofs.Linear.{ints}
 use Rattle.whole.proofs.Linear as L
-use Rattle.whole.proofs.Fits.{low, high}
-use Rattle.whole.proofs.Decides.{holds, branch, both, eq-test, is-false}
+use Rattle.whole.proofs.Decides.{branch, both}
+use Rattle.refusal.specs.Answer.{Answer, is, refused}
 use Rattle.refusal.proofs.Claims.{number-tells}
 use Rattle.interval.specs.declared.IntervalAnswer.{IntervalAnswer}
 use Rattle.interval.specs.declared.IntervalAnswer.the-variants.{Is, Refused}
 use Rattle.interval.specs.declared.PairAnswer.{PairAnswer}
 use Rattle.interval.specs.declared.PairAnswer.the-variants as pair
-use Rattle.interval.specs.Set.{Interval, _⋯_, _∈_, _∉_, _⊆_, top, bottom, isOnly, empty?, canonical?, Proper, Canonical, some}
-use Rattle.interval.specs.Answer.{Answer, is, refused, told, pairTold}
-use Rattle.interval.specs.Mended.{ranged, strict, lenient, neg, add, sub, mul, div, rem, remSingle, ltV, leV, eqV, lt, gt, le, ge, eq, narrow, join}
-use Rattle.interval.proofs.Test.{in-test, only-test}
-use Rattle.interval.proofs.Ends.{only, Least, add-least, sub-least, mul-least, neg-least}
+use Rattle.interval.specs.Answer.{told, pairTold}
+use Rattle.interval.specs.Set.{Interval, _⋯_, _∈_, _∉_, top, bottom, Proper, Canonical, none}
+use Rattle.interval.specs.Mended.{ranged, neg, add, sub, mul, div, rem, lessV, lessOrEqualV, equalsV, equals, less, greater, lessOrEqual, greaterOrEqual, magnitude, narrowed, filled, narrow, join}
+use Rattle.interval.specs.Results.{Least}
+use Rattle.interval.specs.Promise.{Operation, Arithmetic, Arithmetic₁, Exact, fitting, too-wide, Beyond, Quotients, Magnitude, Remainders, Comparison, Narrowing}
+use Rattle.interval.proofs.Test.{in-test}
+use Rattle.interval.proofs.Ends.{low-in, add-least, sub-least, mul-least, neg-least}
 use Rattle.interval.proofs.Truth as T
-use Rattle.interval.proofs.Truth.{Verdict}
-use Rattle.interval.proofs.Rem.{rem-covers, proper}
-use Rattle.interval.proofs.Canonical.{full, canonical-is}
-use Rattle.interval.proofs.Narrow.{Between, between-them}
+use Rattle.interval.proofs.Rem.{proper}
+use Rattle.interval.proofs.Canonical.{canonical-is}
+use Rattle.interval.proofs.Quotients.{quotients}
+use Rattle.interval.proofs.Remainders.{magnitude-found, magnitude-only, remainders}
+use Rattle.interval.proofs.Narrow.{narrow-outside, narrow-beside, narrow-ordered, narrow-emptied, between-them}
+use Rattle.interval.proofs.First.{strict-outside, strict-beside, strict-full, arithmetic, comparison, exchanged}
 
 -- ---- two answers that tell the same are the same, so a contract on what is told fixes the answer
 pub answer-fixed : (r s : IntervalAnswer) → told r ≡ told s → r ≡ s
@@ -42,156 +43,96 @@ pair-fixed (pair.Refused q) (pair.Is v) e = let z : _≡_ {A = ℕ} 0 1 = cc in 
 pair-fixed (pair.Refused q) (pair.Refused r) e = ap pair.Refused (number-tells q r cc)
 
 -- ---- neg, add, sub, mul: the least range holding all exact results, or 2 where one of its ends doesn't fit
-pub data Exact (w : Width) (f : ℤ → ℤ → ℤ) (a b : Interval) : Answer Interval → Type 0 where
-  fitting : {v : Interval} → Least f a b v → Proper w v → Exact w f a b (is v)
-  too-wide : (v : Interval) → Least f a b v → (v .min ∉ top w) ⊎ (v .max ∉ top w) → Exact w f a b (refused 2)
+-- the range between the ends of a least range
+ranged-exact : {w : Width} {a b : Interval} → Proper w a → Proper w b → {f : ℤ → ℤ → ℤ} (lo hi : ℤ) → Least f a b (lo ⋯ hi) → Exact w f a b (ranged w lo hi)
+ranged-exact {w} {a} {b} p q {f} lo hi l = branch (both (in-test lo (top w)) (in-test hi (top w))) (Exact w f a b) (λ h. fitting l (proper ordered (h .0 .low) (h .1 .high))) (λ h. too-wide (lo ⋯ hi) l h)
+  where
+    -- it has a number: the result at the low ends
+    ordered : lo ≤ℤ hi
+    ordered = let c = l .covers (a .min) (b .min) (low-in (p .ordered)) (low-in (q .ordered)) in omega ints
 
-module _ {w : Width} {a b : Interval} (p : Proper w a) (q : Proper w b) where
-  pub strict-full : (r : Answer Interval) → strict w a b r ≡ r
-  strict-full r = rw (canonical-is (some p), canonical-is (some q), full p, full q)
+pub add-exact : (w : Width) → Arithmetic w (Exact w _+ℤ_) (add w)
+unfolding add
+add-exact w = arithmetic w _ (λ a b p q. ranged-exact p q _ _ (add-least (p .ordered) (q .ordered)))
 
-  pub lenient-full : (v : Interval) → lenient w a b v ≡ is v
-  lenient-full v = rw (canonical-is (some p), canonical-is (some q), full p, full q)
+pub sub-exact : (w : Width) → Arithmetic w (Exact w _-ℤ_) (sub w)
+unfolding sub
+sub-exact w = arithmetic w _ (λ a b p q. ranged-exact p q _ _ (sub-least (p .ordered) (q .ordered)))
 
-  -- the range of a least range with ordered ends
-  ranged-exact : {f : ℤ → ℤ → ℤ} (lo hi : ℤ) → Least f a b (lo ⋯ hi) → Exact w f a b (strict w a b (ranged w lo hi))
-  ranged-exact {f} lo hi l =
-      rw strict-full
-      (branch (both (in-test lo (top w)) (in-test hi (top w))) (Exact w f a b) (λ h. fitting l (proper ordered (h .0 .low) (h .1 .high))) (λ h. too-wide (lo ⋯ hi) l h))
-    where
-      -- the least range has a number: the result at the low ends
-      ordered : lo ≤ℤ hi
-      ordered = let c = l .covers (a .min) (b .min) (record { low = omega ints; high = p .ordered }) (record { low = omega ints; high = q .ordered }) in omega ints
+pub mul-exact : (w : Width) → Arithmetic w (Exact w _*ℤ_) (mul w)
+unfolding mul
+mul-exact w = arithmetic w _ (λ a b p q. ranged-exact p q _ _ (mul-least (p .ordered) (q .ordered)))
 
-  pub add-exact : Exact w _+ℤ_ a b (add w a b)
-  unfolding add
-  add-exact = ranged-exact _ _ (add-least (p .ordered) (q .ordered))
-
-  pub sub-exact : Exact w _-ℤ_ a b (sub w a b)
-  unfolding sub
-  sub-exact = ranged-exact _ _ (sub-least (p .ordered) (q .ordered))
-
-  pub mul-exact : Exact w _*ℤ_ a b (mul w a b)
-  unfolding mul
-  mul-exact = ranged-exact _ _ (mul-least (p .ordered) (q .ordered))
-
-pub neg-exact : {w : Width} {a : Interval} → Proper w a → Exact w (λ x y. negℤ x) a a (neg w a)
+pub neg-exact : (w : Width) → Arithmetic₁ w (λ a. Exact w (λ x y. negℤ x) a a) (neg w)
 unfolding neg
-neg-exact p = ranged-exact p p _ _ (neg-least (p .ordered) (p .ordered))
+neg-exact w = record {
+  outside = λ a f. strict-outside w made a a (inl f);
+  beside = strict-beside w made (bottom w) (bottom w) none none (inl refl);
+  full = λ p. rw (strict-full p p _) (ranged-exact p p _ _ (neg-least (p .ordered) (p .ordered)));
+}
+  where
+    made : Operation
+    made a b = ranged w (negℤ (a .max)) (negℤ (a .min))
 
--- refused by 2 exactly when a result of two numbers doesn't fit
-pub record Result-beyond (w : Width) (f : ℤ → ℤ → ℤ) (a b : Interval) : Type 0 where
-  pub left : ℤ
-  pub right : ℤ
-  pub left-in : left ∈ a
-  pub right-in : right ∈ b
-  pub beyond : f left right ∉ top w
-
--- what is beyond the width is in no proper interval
+-- so refused by 2 exactly when a result of two numbers doesn't fit
+-- (what is beyond the width is in no proper interval)
 outside : {w : Width} {x : ℤ} {v : Interval} → Proper w v → x ∉ top w → x ∈ v → ⊥
 outside p (inl c) h = omega ints
 outside p (inr c) h = omega ints
 
 module _ {w : Width} {f : ℤ → ℤ → ℤ} {a b : Interval} where
-  pub refused-if : {r : Answer Interval} → Exact w f a b r → Result-beyond w f a b → r ≡ refused 2
+  pub refused-if : {r : Answer Interval} → Exact w f a b r → Beyond w f a b → r ≡ refused 2
   refused-if (fitting l p) e = absurd (outside p (e .beyond) (l .covers (e .left) (e .right) (e .left-in) (e .right-in)))
   refused-if (too-wide v l c) e = refl
 
-  pub only-refused-if : {r : Answer Interval} → Exact w f a b r → r ≡ refused 2 → Result-beyond w f a b
+  pub only-refused-if : {r : Answer Interval} → Exact w f a b r → r ≡ refused 2 → Beyond w f a b
   only-refused-if {r} (fitting l p) e = absurd (let z : _≡_ {A = ℕ} 0 1 = cc in omega ints)
   only-refused-if (too-wide v l (inl c)) e = record { left = l .low-is .left; right = l .low-is .right; left-in = l .low-is .left-in; right-in = l .low-is .right-in; beyond = rw (l .low-is .at) c }
   only-refused-if (too-wide v l (inr c)) e = record { left = l .high-is .left; right = l .high-is .right; left-in = l .high-is .left-in; right-in = l .high-is .right-in; beyond = rw (l .high-is .at) c }
 
--- ---- 1 goes first; bottom in, bottom out for arithmetic; an empty side of a comparison gives both
-module _ (w : Width) (a b : Interval) where
-  module _ (r : Answer Interval) where
-    pub not-canonical : (canonical? w a && canonical? w b) ≡ false → strict w a b r ≡ refused 1
-    not-canonical e = rw e
+-- ---- div: top, bottom by [0, 0]; it has every quotient that fits
+pub div-rule : (w : Width) → Arithmetic w (Quotients w) (div w)
+unfolding div
+div-rule w = arithmetic w _ (λ a b p q. quotients w a b)
 
-    pub bottom-in : (canonical? w a && canonical? w b) ≡ true → (empty? a || empty? b) ≡ true → strict w a b r ≡ is (bottom w)
-    bottom-in e f = rw (e, f)
+-- ---- rem: by the greatest magnitude in the divisor; it has every remainder, and is refused by 2 for MIN and -1 alone
+pub rem-rule : (w : Width) → Arithmetic w (Remainders w) (rem w)
+unfolding rem
+rem-rule w = arithmetic w _ (λ a b p q. remainders p q)
 
-  module _ (v : Interval) where
-    pub not-canonical-compared : (canonical? w a && canonical? w b) ≡ false → lenient w a b v ≡ refused 1
-    not-canonical-compared e = rw e
+-- there is one greatest magnitude in a divisor that has a number
+pub magnitude-one : {w : Width} {b : Interval} → Proper w b → Magnitude b (magnitude b) × ((m : ℤ) → Magnitude b m → m ≡ magnitude b)
+magnitude-one q = (magnitude-found (q .ordered), magnitude-only (q .ordered))
 
-    pub empty-gives-both : (canonical? w a && canonical? w b) ≡ true → (empty? a || empty? b) ≡ true → lenient w a b v ≡ is (pos 0 ⋯ pos 1)
-    empty-gives-both e f = rw (e, f)
+-- ---- the comparisons: true if they hold for every pair, false if for none, else both
+pub equals-exact : (w : Width) → Comparison w _≡_ _≢_ (equals w)
+unfolding equals
+equals-exact w = comparison w equalsV (λ a b p q. T.equals-exact (p .ordered) (q .ordered))
 
--- ---- div and rem cover, each by a divisor that isn't 0
-pub data Covers (w : Width) (f : ℤ → ℤ → ℤ) (a b : Interval) : Answer Interval → Type 0 where
-  covering : {v : Interval} → ((x y : ℤ) → x ∈ a → y ∈ b → y ≢ pos 0 → SFits w (f x y) → f x y ∈ v) → Covers w f a b (is v)
-  refusing : {n : ℕ} → Covers w f a b (refused n)
+pub less-exact : (w : Width) → Comparison w _<ℤ_ (λ x y. y ≤ℤ x) (less w)
+unfolding less
+less-exact w = comparison w lessV (λ a b p q. T.less-exact (p .ordered) (q .ordered))
 
-module _ {w : Width} {a b : Interval} (p : Proper w a) (q : Proper w b) where
-  zero : {y : ℤ} → (b .min ≡ pos 0) × (b .max ≡ pos 0) → y ∈ b → y ≡ pos 0
-  zero h t = omega ints
+pub less-or-equal-exact : (w : Width) → Comparison w _≤ℤ_ (λ x y. y <ℤ x) (lessOrEqual w)
+unfolding lessOrEqual
+less-or-equal-exact w = comparison w lessOrEqualV (λ a b p q. T.less-or-equal-exact (p .ordered) (q .ordered))
 
-  pub rem-cover : Covers w remZ a b (rem w a b)
-  unfolding rem
-  rem-cover =
-      rw (strict-full p q)
-      (branch (only-test b (pos 0)) C (λ h. covering (λ x y s t nz f. absurd (nz (zero h t)))) λ _.
-      branch (both (eq-test (a .min) (a .max)) (eq-test (b .min) (b .max))) C (λ h. alone (h .0) (h .1)) λ _.
-      covering (λ x y s t nz f. rem-covers s t nz))
-    where
-      C : Answer Interval → Type 0
-      C = Covers w remZ a b
+pub greater-exact : (w : Width) → Comparison w (λ x y. y <ℤ x) (λ x y. x ≤ℤ y) (greater w)
+unfolding greater
+greater-exact w = exchanged (less w) (less-exact w)
 
-      alone : a .min ≡ a .max → b .min ≡ b .max → C (remSingle w (a .min) (b .min))
-      alone d e = branch (in-test _ (top w)) C (λ _. covering (λ x y s t nz f. rw (only d s, only e t) (record { low = omega ints; high = omega ints }))) (λ _. refusing)
+pub greater-or-equal-exact : (w : Width) → Comparison w (λ x y. y ≤ℤ x) (λ x y. x <ℤ y) (greaterOrEqual w)
+unfolding greaterOrEqual
+greater-or-equal-exact w = exchanged (lessOrEqual w) (less-or-equal-exact w)
 
-  pub div-cover : Covers w quotZ a b (div w a b)
-  unfolding div
-  div-cover =
-      rw (strict-full p q)
-      (branch (only-test b (pos 0)) (λ v. Covers w quotZ a b (is v)) (λ h. covering (λ x y s t nz f. absurd (nz (zero h t)))) λ _.
-      covering (λ x y s t nz f. record { low = low w _ f; high = high w _ f }))
+-- ---- narrow: as ported, made bottom if empty; if new is inside previous, the answer lies between them
+pub narrow-rule : (w : Width) → Narrowing w (narrow w)
+narrow-rule w = record { outside = narrow-outside w; beside = narrow-beside w; ordered = narrow-ordered; emptied = narrow-emptied; inside = λ c d s. between-them w s c d }
 
-  -- the quotient: whatever fits
-  pub div-is : (b .min ≢ pos 0) ⊎ (b .max ≢ pos 0) → div w a b ≡ is (top w)
-  unfolding div
-  div-is f = rw (strict-full p q (is (pick (isOnly b (pos 0)) (bottom w) (top w))), is-false (only-test b (pos 0)) (no f))
-    where
-      no : (b .min ≢ pos 0) ⊎ (b .max ≢ pos 0) → (b .min ≡ pos 0) × (b .max ≡ pos 0) → ⊥
-      no (inl f) e = f (e .0)
-      no (inr f) e = f (e .1)
-
-  -- ---- the comparisons: true if they hold for every pair, false if for none, else both
-  pub lt-is : lt w a b ≡ is (ltV a b)
-  unfolding lt
-  lt-is = lenient-full p q _
-
-  pub le-is : le w a b ≡ is (leV a b)
-  unfolding le
-  le-is = lenient-full p q _
-
-  pub eq-is : eq w a b ≡ is (eqV a b)
-  unfolding eq
-  eq-is = lenient-full p q _
-
-pub data Compares (P N : ℤ → ℤ → Type 0) (a b : Interval) : Answer Interval → Type 0 where
-  compares : {v : Interval} → Verdict P N a b v → Compares P N a b (is v)
-
-module _ {w : Width} {a b : Interval} (p : Proper w a) (q : Proper w b) where
-  pub eq-exact : Compares _≡_ _≢_ a b (eq w a b)
-  eq-exact = rw (eq-is p q) (compares (T.eq-exact (p .ordered) (q .ordered)))
-
-  pub lt-exact : Compares _<ℤ_ (λ x y. y ≤ℤ x) a b (lt w a b)
-  lt-exact = rw (lt-is p q) (compares (T.lt-exact (p .ordered) (q .ordered)))
-
-  pub le-exact : Compares _≤ℤ_ (λ x y. y <ℤ x) a b (le w a b)
-  le-exact = rw (le-is p q) (compares (T.le-exact (p .ordered) (q .ordered)))
-
--- greater is less with the sides exchanged
-module _ {w : Width} {a b : Interval} (p : Proper w a) (q : Proper w b) where
-  pub gt-exact : Compares (λ x y. x <ℤ y) (λ x y. y ≤ℤ x) b a (gt w a b)
-  unfolding gt
-  gt-exact = lt-exact q p
-
-  pub ge-exact : Compares (λ x y. x ≤ℤ y) (λ x y. y <ℤ x) b a (ge w a b)
-  unfolding ge
-  ge-exact = le-exact q p
+-- at 64 bits it is the ported one, made bottom if empty
+pub narrow-ported : {new previous : Interval} → Canonical w64 new → Canonical w64 previous → narrow w64 new previous ≡ is (filled w64 (narrowed w64 new previous))
+unfolding narrow
+narrow-ported c d = rw (canonical-is c, canonical-is d)
 
 -- ---- the join is the least interval that holds both
 pub join-left : (a b : Interval) {x : ℤ} → x ∈ a → x ∈ join a b
@@ -205,7 +146,3 @@ join-right a b h = record { low = omega (ints, L.least (a .min) (b .min)); high 
 pub join-proper : {w : Width} {a b : Interval} → Proper w a → Proper w b → Proper w (join a b)
 unfolding join
 join-proper {a} {b} p q = let l = L.least (a .min) (b .min) in let g = L.greatest (a .max) (b .max) in proper (omega ints) (omega ints) (omega ints)
-
--- ---- narrow: if new is inside previous, the answer lies between them
-pub narrow-between : {w : Width} {new previous : Interval} → Canonical w new → Canonical w previous → new ⊆ previous → Between new previous (narrow w new previous)
-narrow-between {w} c d s = between-them w s c d

@@ -1,27 +1,27 @@
 -- The test of the domain, and that the mended operations have canonical answers.
 use mathlib.Core.Path.{_≡_, refl}
-use mathlib.Core.Logic.{_↔_}
-use mathlib.Core.Bool.{Bool, true, false, not, _&&_, _||_}
-use Prim.Native.Nat.{ℕ}
+use mathlib.Core.Logic.{_↔_, inl, inr}
+use mathlib.Core.Bool.{Bool, true, false, not, _||_}
 use lib.IntN.{ℤ, pos}
 use lib.Signed.{_≤ℤ_, ≤ℤ-refl, remZ}
 use mir.Syntax.{Width, w64}
 use mir.Val.{SFits}
 use Rattle.whole.specs.Choice.{pick}
-use Rattle.whole.specs.Test.{_≤?_, _<?_}
 use Rattle.whole.specs.Range.{least, greatest}
 use Rattle.whole.proofs.Linear.{ints}
 use Rattle.whole.proofs.Fits.{fits, low, high}
 use Rattle.whole.proofs.Divide.{fits-rem}
-use Rattle.whole.proofs.Decides.{branch, both, either, eq-test, lt-test, is-true, is-fit}
+use Rattle.whole.proofs.Decides.{branch, both, either, eq-test, is-fit}
 use Rattle.interval.specs.Set.{Interval, _⋯_, top, bottom, empty?, isBottom, inWidth?, canonical?, Proper, Canonical, some, none}
-use Rattle.interval.specs.Answer.{Answer, is, refused}
-use Rattle.interval.specs.Mended.{strict, lenient, verdict, neg, add, sub, mul, div, rem, remSingle, eq, lt, gt, le, ge, narrowed, filled, narrow}
+use Rattle.refusal.specs.Answer.{Answer, is, refused}
+use Rattle.interval.specs.Mended.{neg, add, sub, mul, div, rem, remSingle, equals, less, greater, lessOrEqual, greaterOrEqual, narrowed, filled, narrow}
+use Rattle.interval.specs.Promise.{Operation, Arithmetic, Exact, fitting, too-wide, Comparison, Verdict, Judged, judged, always, never, sometimes, Well, shown, refusing}
 use Rattle.interval.proofs.Test.{in-test, only-test}
 use Rattle.interval.proofs.Rem.{proper, signs, one-fits, rem-proper}
-use Rattle.interval.proofs.Canonical.{full, bottom-test, bottom-empty, canonical-is, is-canonical, in-width}
+use Rattle.interval.proofs.Canonical.{bottom-test, canonical-is, is-canonical, in-width}
+use Rattle.interval.proofs.First.{strict-full}
 use Rattle.interval.proofs.Fill.{filled-canonical}
-use Rattle.interval.proofs.Claims.{Exact, fitting, too-wide, strict-full, neg-exact, add-exact, sub-exact, mul-exact}
+use Rattle.interval.proofs.Claims.{neg-exact, add-exact, sub-exact, mul-exact, div-rule, rem-rule, equals-exact, less-exact, greater-exact, less-or-equal-exact, greater-or-equal-exact}
 
 -- ---- the test that every mended operation makes first decides whether an interval is canonical
 pub canonical-test : (w : Width) (i : Interval) → (canonical? w i ≡ true) ↔ Canonical w i
@@ -36,48 +36,40 @@ canonical-64 {i} f g = go (empty? i)
     go true = refl
     go false = rw (is-fit f, is-fit g)
 
-pub data Well (w : Width) : Answer Interval → Type 0 where
-  shown : {v : Interval} → Canonical w v → Well w (is v)
-  refusing : {n : ℕ} → Well w (refused n)
-
+-- ---- arithmetic
 well : {w : Width} {f : ℤ → ℤ → ℤ} {a b : Interval} {r : Answer Interval} → Exact w f a b r → Well w r
 well (fitting l p) = shown (some p)
 well (too-wide v l c) = refusing
 
-bottom-is : (w : Width) → empty? (bottom w) ≡ true
-bottom-is w = is-true (lt-test (least w) (greatest w)) (λ h. omega (ints, bottom-empty w))
-
 -- a side that is bottom gives bottom
-strict-well : {w : Width} {a b : Interval} → Canonical w a → Canonical w b → (r : Answer Interval) → (Proper w a → Proper w b → Well w (strict w a b r)) → Well w (strict w a b r)
-strict-well (some p) (some q) r f = f p q
-strict-well {w} (some p) none r f = rw (canonical-is (some p), full p, canonical-is {w = w} none, bottom-is w) (shown none)
-strict-well {w} none d r f = rw (canonical-is {w = w} none, canonical-is d, bottom-is w) (shown none)
+module _ {w : Width} {P : Interval → Interval → Answer Interval → Type 0} {op : Operation} (m : Arithmetic w P op) where
+  beside-well : {a b : Interval} → Canonical w a → Canonical w b → (Proper w a → Proper w b → Well w (op a b)) → Well w (op a b)
+  beside-well (some p) (some q) f = f p q
+  beside-well {a} (some p) none f = rw (m .beside a (bottom w) (some p) none (inr refl)) (shown none)
+  beside-well {b} none d f = rw (m .beside (bottom w) b none d (inl refl)) (shown none)
 
 pub neg-canonical : {w : Width} {a : Interval} → Canonical w a → Well w (neg w a)
-unfolding neg
-neg-canonical c = strict-well c c _ (λ p q. well (neg-exact p))
+neg-canonical {w} (some p) = well (neg-exact w .full p)
+neg-canonical {w} none = rw (neg-exact w .beside) (shown none)
 
 module _ {w : Width} {a b : Interval} (c : Canonical w a) (d : Canonical w b) where
   pub add-canonical : Well w (add w a b)
-  unfolding add
-  add-canonical = strict-well c d _ (λ p q. well (add-exact p q))
+  add-canonical = beside-well (add-exact w) c d (λ p q. well (add-exact w .full p q))
 
   pub sub-canonical : Well w (sub w a b)
-  unfolding sub
-  sub-canonical = strict-well c d _ (λ p q. well (sub-exact p q))
+  sub-canonical = beside-well (sub-exact w) c d (λ p q. well (sub-exact w .full p q))
 
   pub mul-canonical : Well w (mul w a b)
-  unfolding mul
-  mul-canonical = strict-well c d _ (λ p q. well (mul-exact p q))
+  mul-canonical = beside-well (mul-exact w) c d (λ p q. well (mul-exact w .full p q))
 
   pub div-canonical : Well w (div w a b)
   unfolding div
-  div-canonical = strict-well c d _ (λ p q. rw (strict-full p q) (branch (only-test b (pos 0)) (λ v. Well w (is v)) (λ _. shown none) (λ _. shown (some (proper (omega (ints, signs w)) (omega ints) (omega ints))))))
+  div-canonical = beside-well (div-rule w) c d (λ p q. rw (strict-full p q) (branch (only-test b (pos 0)) (λ v. Well w (is v)) (λ _. shown none) (λ _. shown (some (proper (omega (ints, signs w)) (omega ints) (omega ints))))))
 
   pub rem-canonical : Well w (rem w a b)
   unfolding rem
   rem-canonical =
-      strict-well c d _ λ p q.
+      beside-well (rem-rule w) c d λ p q.
       rw (strict-full p q)
       (branch (only-test b (pos 0)) (Well w) (λ _. shown none) λ nz.
       branch (both (eq-test (a .min) (a .max)) (eq-test (b .min) (b .max))) (Well w) (λ _. alone p) λ _.
@@ -89,44 +81,38 @@ module _ {w : Width} {a b : Interval} (c : Canonical w a) (d : Canonical w b) wh
           branch (in-test _ (top w)) (Well w) (λ _. shown (some (proper (≤ℤ-refl (remZ (a .min) (b .min))) (low w _ f) (high w _ f)))) (λ _. refusing)
 
 -- ---- comparisons
-pub verdict-proper : {w : Width} (every never : Bool) → Proper w (verdict every never)
-unfolding verdict
-verdict-proper {w} true never = proper (omega ints) (omega (ints, signs w)) (one-fits w)
-verdict-proper {w} false true = proper (omega ints) (omega (ints, signs w)) (omega (ints, signs w))
-verdict-proper {w} false false = proper (omega ints) (omega (ints, signs w)) (one-fits w)
-
 both-proper : (w : Width) → Proper w (pos 0 ⋯ pos 1)
 both-proper w = proper (omega ints) (omega (ints, signs w)) (one-fits w)
 
-module _ (w : Width) (a b : Interval) where
-  lenient-well : (every never : Bool) → Well w (lenient w a b (verdict every never))
-  lenient-well every never = go (canonical? w a && canonical? w b) (empty? a || empty? b)
-    where
-      go : (p q : Bool) → Well w (pick p (is (pick q (pos 0 ⋯ pos 1) (verdict every never))) (refused 1))
-      go true true = shown (some (both-proper w))
-      go true false = shown (some (verdict-proper every never))
-      go false q = refusing
+verdict-proper : {w : Width} {P N : ℤ → ℤ → Type 0} {a b v : Interval} → Verdict P N a b v → Proper w v
+verdict-proper {w} (always h) = proper (omega ints) (omega (ints, signs w)) (one-fits w)
+verdict-proper {w} (never h) = proper (omega ints) (omega (ints, signs w)) (omega (ints, signs w))
+verdict-proper {w} (sometimes h k) = both-proper w
 
-  pub eq-canonical : Well w (eq w a b)
-  unfolding eq
-  eq-canonical = lenient-well ((a .max ≤? b .min) && (b .max ≤? a .min)) ((a .max <? b .min) || (b .max <? a .min))
+judged-well : {w : Width} {P N : ℤ → ℤ → Type 0} {a b : Interval} {r : Answer Interval} → Judged P N a b r → Well w r
+judged-well (judged h) = shown (some (verdict-proper h))
 
-  pub lt-canonical : Well w (lt w a b)
-  unfolding lt
-  lt-canonical = lenient-well (a .max <? b .min) (b .max ≤? a .min)
+module _ {w : Width} {P N : ℤ → ℤ → Type 0} {op : Operation} (m : Comparison w P N op) where
+  compared-well : {a b : Interval} → Canonical w a → Canonical w b → Well w (op a b)
+  compared-well (some p) (some q) = judged-well (m .full p q)
+  compared-well {a} (some p) none = rw (m .beside a (bottom w) (some p) none (inr refl)) (shown (some (both-proper w)))
+  compared-well {b} none d = rw (m .beside (bottom w) b none d (inl refl)) (shown (some (both-proper w)))
 
-  pub le-canonical : Well w (le w a b)
-  unfolding le
-  le-canonical = lenient-well (a .max ≤? b .min) (b .max <? a .min)
+module _ {w : Width} {a b : Interval} (c : Canonical w a) (d : Canonical w b) where
+  pub equals-canonical : Well w (equals w a b)
+  equals-canonical = compared-well (equals-exact w) c d
 
-module _ (w : Width) (a b : Interval) where
-  pub gt-canonical : Well w (gt w a b)
-  unfolding gt
-  gt-canonical = lt-canonical w b a
+  pub less-canonical : Well w (less w a b)
+  less-canonical = compared-well (less-exact w) c d
 
-  pub ge-canonical : Well w (ge w a b)
-  unfolding ge
-  ge-canonical = le-canonical w b a
+  pub greater-canonical : Well w (greater w a b)
+  greater-canonical = compared-well (greater-exact w) c d
+
+  pub less-or-equal-canonical : Well w (lessOrEqual w a b)
+  less-or-equal-canonical = compared-well (less-or-equal-exact w) c d
+
+  pub greater-or-equal-canonical : Well w (greaterOrEqual w a b)
+  greater-or-equal-canonical = compared-well (greater-or-equal-exact w) c d
 
 -- ---- narrowing
 pub narrow-canonical : {w : Width} {new previous : Interval} → Canonical w new → Canonical w previous → Well w (narrow w new previous)

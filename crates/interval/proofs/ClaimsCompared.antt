@@ -15,8 +15,9 @@ use Rattle.whole.proofs.Decides.{Decides, branch, either, le-test, lt-test, eq-
 use Rattle.interval.specs.declared.Pair.{Pair}
 use Rattle.interval.specs.Set.{Interval, _∈_, bottom, single, Proper, Canonical}
 use Rattle.interval.specs.declared.Single.the-variants.{One}
-use Rattle.interval.specs.Answer.{Answer, is, refused}
+use Rattle.refusal.specs.Answer.{Answer, is, refused}
 use Rattle.interval.specs.Mended.{filled}
+use Rattle.interval.specs.PortedPromise.{Partner, Sides, Answered, answers, refuses}
 use Rattle.interval.specs.Ported.{mayEqualWhen, meet, apart, pair, lessLeft, lessRight, maybeLessWhen, leLeft, leRight, maybeLeWhen, singleton, sameOne, weakCmp, leBy, geBy}
 use Rattle.interval.proofs.Ends.{low-in, high-in}
 use Rattle.interval.proofs.Canonical.{IsBottom, NotBottom, bottom-test, nothing, has-number, not-bottom}
@@ -37,14 +38,6 @@ may-equal-exact a b x = branch (either (bottom-test w64 a) (bottom-test w64 b)) 
     no (inr e) h = empty e (h .1)
 
 -- ---- maybe_le_when and maybe_less_when: the numbers of each side that have a partner on the other
-pub record Partner (R : ℤ → Type 0) (i : Interval) : Type 0 where
-  pub number : ℤ
-  pub number-in : number ∈ i
-  pub at : R number
-
-pub record Sides (R : ℤ → ℤ → Type 0) (a b : Interval) (p : Pair) : Type 0 where
-  pub left-is : (x : ℤ) → (x ∈ p .left) ↔ ((x ∈ a) × Partner (λ y. R x y) b)
-  pub right-is : (y : ℤ) → (y ∈ p .right) ↔ ((y ∈ b) × Partner (λ x. R x y) a)
 
 -- nothing on either side, if no number of a is at most one of b
 none-there : (R : ℤ → ℤ → Type 0) (a b : Interval) → ((x y : ℤ) → x ∈ a → y ∈ b → R x y → ⊥) → Sides R a b (pair (bottom w64) (bottom w64))
@@ -77,11 +70,6 @@ le-when-exact {a} {b} c d =
       left-is = λ x. side _ x (λ h. (record { low = omega ints; high = omega ints }, record { number = b .max; number-in = high-in (q .ordered); at = omega ints })) (λ h. let y = h .1 .number-in in let r = h .1 .at in let m = h .0 in record { low = omega ints; high = omega ints });
       right-is = λ y. side _ y (λ h. (record { low = omega ints; high = omega ints }, record { number = a .min; number-in = low-in (p .ordered); at = omega ints })) (λ h. let x = h .1 .number-in in let r = h .1 .at in let m = h .0 in record { low = omega ints; high = omega ints });
     }
-
--- where it isn't refused
-pub data Answered (R : ℤ → ℤ → Type 0) (a b : Interval) : Answer Pair → Type 0 where
-  answers : {p : Pair} → Sides R a b p → Answered R a b (is p)
-  refuses : (b .max ≡ least w64) ⊎ (a .min ≡ greatest w64) → Answered R a b (refused 2)
 
 pub less-when-exact : {a b : Interval} → Canonical w64 a → Canonical w64 b → Answered _<ℤ_ a b (maybeLessWhen a b)
 unfolding maybeLessWhen lessLeft lessRight

@@ -15,6 +15,7 @@ use Rattle.whole.proofs.Linear as L
 use Rattle.whole.proofs.Decides.{branch, both, le-test, lt-test, eq-test}
 use Rattle.interval.specs.Set.{Interval, _⋯_, _∈_, _⊆_, bottom, Proper, Canonical, some, none, empty?}
 use Rattle.interval.specs.Mended.{join, narrowed}
+use Rattle.interval.specs.PortedPromise.{Join, Compared, equal, less, greater, neither}
 use Rattle.interval.specs.Ported.{common, meet, partialCmp, widen}
 use Rattle.interval.proofs.Calls.{made}
 use Rattle.interval.proofs.Ends.{low-in, high-in}
@@ -24,10 +25,6 @@ use Rattle.interval.proofs.Fill.{into, out-of, filled-canonical}
 use Rattle.interval.proofs.Claims.{join-left, join-right}
 
 -- ---- the join: it holds both, and nothing smaller does
-pub record Join (a b v : Interval) : Type 0 where
-  pub left : a ⊆ v
-  pub right : b ⊆ v
-  pub least-one : (u : Interval) → a ⊆ u → b ⊆ u → v ⊆ u
 
 -- joined with bottom, an interval of the width stays as it is
 beside-bottom : {w : Width} {b : Interval} → Proper w b → (join (bottom w) b ⊆ b) × (join b (bottom w) ⊆ b)
@@ -78,11 +75,6 @@ unfolding meet
 meet-canonical {a} {b} c d = let l = in-width c in let r = in-width d in filled-canonical w64 (common a b) (omega (ints, L.greatest (a .min) (b .min))) (omega (ints, L.least (a .max) (b .max)))
 
 -- ---- the order: inclusion
-pub data Compared (a b : Interval) : Order → Type 0 where
-  equal : a ≡ b → Compared a b Equal
-  less : a ⊆ b → (b ⊆ a → ⊥) → Compared a b Less
-  greater : b ⊆ a → (a ⊆ b → ⊥) → Compared a b Greater
-  neither : (a ⊆ b → ⊥) → (b ⊆ a → ⊥) → Compared a b None
 
 inside-ends : {w : Width} {a b : Interval} → Canonical w a → Canonical w b → a ⊆ b → (b .min ≤ℤ a .min) × (a .max ≤ℤ b .max)
 inside-ends {a} (some p) d s = (s (a .min) (low-in (p .ordered)) .low, s (a .max) (high-in (p .ordered)) .high)

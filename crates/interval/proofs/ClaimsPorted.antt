@@ -1,5 +1,5 @@
 -- The ported arithmetic covers every result that fits; sums, differences and products are least where document 01 says so.
-use mathlib.Core.Path.{_≡_, refl}
+use mathlib.Core.Path.{_≡_, refl, sym, ap, _∙_}
 use mathlib.Core.Logic.{_≢_, _⊎_, inl, inr}
 use mathlib.Core.Bool.{false}
 use lib.IntN.{ℤ, pos, negℤ, natAbs, _+ℤ_, _-ℤ_, _*ℤ_}
@@ -16,19 +16,24 @@ use Rattle.whole.specs.declared.Order.the-variants.{None}
 use Rattle.whole.proofs.Linear.{ints, abs, split}
 use Rattle.whole.proofs.Linear as L
 use Rattle.whole.proofs.Shapes.{lin}
-use Rattle.whole.proofs.Fits.{low, high}
+use Rattle.whole.proofs.Fits.{fits, low, high}
 use Rattle.whole.proofs.Corners.{corners}
 use Rattle.whole.proofs.Divide.{rem-small, rem-nonneg, rem-nonpos}
 use Rattle.whole.proofs.Decides.{branch, both, either, le-test, eq-test, fits-test, is-false, unequal}
-use Rattle.interval.specs.Set.{Interval, _⋯_, _∈_, top, bottom, single, isBottom, Proper, Canonical, some, none}
-use Rattle.interval.specs.Answer.{Answer, is, refused}
+use Rattle.whole.proofs.Decides as W
+use Rattle.refusal.specs.Answer.{Answer, is}
+use Rattle.interval.specs.Set.{Interval, _⋯_, _∈_, bottom, single, isBottom, Proper, Canonical, some, none}
+use Rattle.interval.specs.Results.{Least, Covers, Covering, covering, refusing}
+use Rattle.interval.specs.Promise.{Several, MinByMinusOne}
+use Rattle.interval.specs.PortedPromise.{Fitting, RemRefused, Inner, LeastAnswer, least-is, CornersFit}
 use Rattle.interval.specs.Mended.{remSingle}
 use Rattle.interval.specs.Ported.{addMin, addMax, add, neg, addTo, sub, mul, weakCmp, sameOne, singleton, remBy, remLarge, rem}
-use Rattle.interval.proofs.Test.{in-test, only-test}
-use Rattle.interval.proofs.Ends.{only, Least, add-least, sub-least, mul-least}
+use Rattle.interval.proofs.Calls.{made}
+use Rattle.interval.proofs.Test.{only-test}
+use Rattle.interval.proofs.Ends.{add-least, sub-least, mul-least}
 use Rattle.interval.proofs.Rem.{signs}
-use Rattle.interval.proofs.Canonical.{IsBottom, bottom-test, nothing, in-width, not-bottom}
-use Rattle.interval.proofs.Claims as M
+use Rattle.interval.proofs.Canonical.{IsBottom, NotBottom, bottom-test, nothing, in-width, has-number, not-bottom}
+use Rattle.interval.proofs.Remainders.{same-reason, alone-covers}
 use Rattle.interval.proofs.Clamp.{clamp-under, clamp-over, clamp-is, four-under, four-over}
 
 abbrev MIN : ℤ
@@ -37,18 +42,10 @@ MIN = least w64
 abbrev MAX : ℤ
 MAX = greatest w64
 
--- the interval, or the answer if it isn't refused, has every result of f that fits
-abbrev pub Covers : (ℤ → ℤ → ℤ) → Interval → Interval → Interval → Type 0
-Covers f a b v = (x y : ℤ) → x ∈ a → y ∈ b → SFits w64 (f x y) → f x y ∈ v
-
-pub data Covering (f : ℤ → ℤ → ℤ) (a b : Interval) : Answer Interval → Type 0 where
-  covering : {v : Interval} → Covers f a b v → Covering f a b (is v)
-  refusing : Covering f a b (refused 2)
-
 -- beside bottom there is nothing to cover
-beside : (f : ℤ → ℤ → ℤ) {a b v : Interval} → IsBottom w64 a ⊎ IsBottom w64 b → Covers f a b v
-beside f (inl e) x y p q s = absurd (nothing w64 {x = x} (record { low = omega ints; high = omega ints }))
-beside f (inr e) x y p q s = absurd (nothing w64 {x = y} (record { low = omega ints; high = omega ints }))
+beside : (f : ℤ → ℤ → ℤ) (Counts : ℤ → ℤ → Type 0) {a b v : Interval} → IsBottom w64 a ⊎ IsBottom w64 b → Covers f Counts a b v
+beside f C (inl e) x y p q s = absurd (nothing w64 {x = x} (record { low = omega ints; high = omega ints }))
+beside f C (inr e) x y p q s = absurd (nothing w64 {x = y} (record { low = omega ints; high = omega ints }))
 
 -- ---- add
 module _ {z : ℤ} (s : SFits w64 z) (x y : ℤ) where
@@ -60,10 +57,10 @@ module _ {z : ℤ} (s : SFits w64 z) (x y : ℤ) where
   unfolding addMax
   high-end h = branch (either (eq-test x MAX) (eq-test y MAX)) (λ t. z ≤ℤ t) (λ _. high w64 z s) (λ _. clamp-over w64 s (x +ℤ y) h)
 
-pub add-covers : (a b : Interval) → Covers _+ℤ_ a b (add a b)
+pub add-covers : (a b : Interval) → Covers _+ℤ_ (Fitting _+ℤ_) a b (add a b)
 unfolding add
 add-covers a b =
-    branch (either (bottom-test w64 a) (bottom-test w64 b)) (Covers _+ℤ_ a b) (beside _+ℤ_) λ _ x y p q s.
+    branch (either (bottom-test w64 a) (bottom-test w64 b)) (Covers _+ℤ_ (Fitting _+ℤ_) a b) (beside _+ℤ_ (Fitting _+ℤ_)) λ _ x y p q s.
     record { low = low-end s (a .min) (b .min) (omega lin); high = high-end s (a .max) (b .max) (omega lin) }
 
 -- ---- sub
@@ -84,29 +81,32 @@ negated b = pick (b .max ≟ MAX) MIN (negℤ (b .max)) ⋯ pick (b .min ≟ MIN
 no-bottom : {n : ℤ} → n ≤ℤ MAX → pick (n ≟ MIN) MAX (negℤ n) ≡ MIN → ⊥
 no-bottom {n} h = branch (eq-test n MIN) (λ t. t ≡ MIN → ⊥) (λ _ e. omega (ints, signs w64)) (λ _ e. omega (lin, L.neg n))
 
-pub sub-covers : {a b : Interval} → Canonical w64 a → Canonical w64 b → Covering _-ℤ_ a b (sub a b)
+pub sub-covers : {a b : Interval} → Canonical w64 a → Canonical w64 b → Covering _-ℤ_ (Fitting _-ℤ_) (b ≡ single MIN) a b (sub a b)
 unfolding sub neg add
 sub-covers {a} {b} c d =
-    branch (bottom-test w64 b) C (λ e. covering (beside _-ℤ_ (inr e))) λ _.
-    branch (eq-test (b .max) MIN) C (λ _. refusing) λ _.
-    covering (branch (either (bottom-test w64 a) (bottom-test w64 (negated b))) (Covers _-ℤ_ a b) none-there λ _ x y p q s.
+    branch (bottom-test w64 b) C (λ e. covering (λ m. omega (ints, signs w64, ap (λ i. i .min) m)) (beside _-ℤ_ (Fitting _-ℤ_) (inr e))) λ n.
+    branch (eq-test (b .max) MIN) C (λ e. refusing (only-least (has-number d n) e)) λ f.
+    covering (λ m. f (ap (λ i. i .max) m)) (branch (either (bottom-test w64 a) (bottom-test w64 (negated b))) (Covers _-ℤ_ (Fitting _-ℤ_) a b) none-there λ _ x y p q s.
     record {
       low = branch (eq-test (b .max) MAX) (λ t. addMin (a .min) t ≤ℤ (x -ℤ y)) (λ _. sunk s (a .min)) (λ _. low-end s (a .min) (negℤ (b .max)) (omega (lin, L.sum (a .min) (negℤ (b .max)), L.neg (b .max))));
       high = branch (eq-test (b .min) MIN) (λ t. (x -ℤ y) ≤ℤ addMax (a .max) t) (λ _. risen s (a .max)) (λ _. high-end s (a .max) (negℤ (b .min)) (omega (lin, L.sum (a .max) (negℤ (b .min)), L.neg (b .min))));
     })
   where
     C : Answer Interval → Type 0
-    C r = Covering _-ℤ_ a b (addTo a r)
+    C r = Covering _-ℤ_ (Fitting _-ℤ_) (b ≡ single MIN) a b (addTo a r)
 
-    none-there : IsBottom w64 a ⊎ IsBottom w64 (negated b) → Covers _-ℤ_ a b (bottom w64)
-    none-there (inl e) = beside _-ℤ_ (inl e)
+    only-least : {b : Interval} → Proper w64 b → b .max ≡ MIN → b ≡ single MIN
+    only-least {b} q e = made (b .min) (b .max) MIN MIN (omega ints) e
+
+    none-there : IsBottom w64 a ⊎ IsBottom w64 (negated b) → Covers _-ℤ_ (Fitting _-ℤ_) a b (bottom w64)
+    none-there (inl e) = beside _-ℤ_ (Fitting _-ℤ_) (inl e)
     none-there (inr e) = absurd (no-bottom (in-width d .1) (e .1))
 
 -- ---- mul
-pub mul-covers : (a b : Interval) → Covers _*ℤ_ a b (mul a b)
+pub mul-covers : (a b : Interval) → Covers _*ℤ_ (Fitting _*ℤ_) a b (mul a b)
 unfolding mul
 mul-covers a b =
-    branch (either (bottom-test w64 a) (bottom-test w64 b)) (Covers _*ℤ_ a b) (beside _*ℤ_) λ _ x y p q s.
+    branch (either (bottom-test w64 a) (bottom-test w64 b)) (Covers _*ℤ_ (Fitting _*ℤ_) a b) (beside _*ℤ_ (Fitting _*ℤ_)) λ _ x y p q s.
     let c = corners x y (a .min) (a .max) (b .min) (b .max) (p .low) (p .high) (q .low) (q .high) in
     record { low = four-under w64 s _ _ _ _ (c .0); high = four-over w64 s _ _ _ _ (c .1) }
 
@@ -144,29 +144,57 @@ module _ {a b : Interval} {x y : ℤ} (p : x ∈ a) (q : y ∈ b) (nz : y ≢ po
       both-sides : P None
       both-sides = record { low = within .0; high = within .1 }
 
-pub rem-covers : (a b : Interval) → M.Covers w64 remZ a b (rem a b)
+-- of numbers of 64 bits, the greater absolute value fits unless the divisor has MIN
+module _ {b : Interval} (d : Canonical w64 b) where
+  has-least : NotBottom w64 b → W.Beyond w64 (maxℤ (pos (natAbs (b .min))) (pos (natAbs (b .max)))) → b .min ≡ MIN
+  has-least n o = let q = has-number d n in elim o [
+    | inl h ↦ absurd (omega (ints, L.greatest (pos (natAbs (b .min))) (pos (natAbs (b .max)))))
+    | inr h ↦ omega (ints, L.greatest (pos (natAbs (b .min))) (pos (natAbs (b .max))), abs (b .min), abs (b .max))
+  ]
+
+  least-beyond : b .min ≡ MIN → SFits w64 (maxℤ (pos (natAbs (b .min))) (pos (natAbs (b .max)))) → ⊥
+  least-beyond e f = omega (ints, high w64 _ f, L.greatest (pos (natAbs (b .min))) (pos (natAbs (b .max))), abs (b .min))
+
+pub rem-covers : {a b : Interval} → Canonical w64 a → Canonical w64 b → Covering remZ (λ x y. y ≢ pos 0) (RemRefused a b) a b (rem a b)
 unfolding rem remLarge exactly m
-rem-covers a b =
-    branch (either (either (bottom-test w64 a) (bottom-test w64 b)) (only-test b (pos 0))) C (λ e. M.covering (none-there e)) λ _.
-    branch (both (eq-test (a .min) (a .max)) (eq-test (b .min) (b .max))) C (λ h. alone (h .0) (h .1)) λ _.
-    branch (fits-test w64 _) (λ e. C (remLarge a e)) (λ _. M.covering (λ x y p q nz s. by-order p q nz)) (λ _. M.refusing)
+rem-covers {a} {b} c d =
+    branch (either (either (bottom-test w64 a) (bottom-test w64 b)) (only-test b (pos 0))) C (λ e. covering (settled e) (none-there e)) λ n.
+    branch (both (eq-test (a .min) (a .max)) (eq-test (b .min) (b .max))) C (λ h. alone (has-number c (n .0 .0)) (h .0) (h .1)) λ s.
+    branch (fits-test w64 _) (λ e. C (remLarge a e)) (λ f. covering (fitted s f) (λ x y p q nz. by-order p q nz)) (λ o. refusing (inr (not-both (n .0 .0), s, has-least d (n .0 .1) o)))
   where
     C : Answer Interval → Type 0
-    C = M.Covers w64 remZ a b
+    C = Covering remZ (λ x y. y ≢ pos 0) (RemRefused a b) a b
 
-    none-there : (IsBottom w64 a ⊎ IsBottom w64 b) ⊎ ((b .min ≡ pos 0) × (b .max ≡ pos 0)) → (x y : ℤ) → x ∈ a → y ∈ b → y ≢ pos 0 → SFits w64 (remZ x y) → remZ x y ∈ bottom w64
-    none-there (inl e) x y p q nz s = beside remZ e x y p q s
-    none-there (inr e) x y p q nz s = absurd (nz (omega ints))
+    none-there : (IsBottom w64 a ⊎ IsBottom w64 b) ⊎ ((b .min ≡ pos 0) × (b .max ≡ pos 0)) → Covers remZ (λ x y. y ≢ pos 0) a b (bottom w64)
+    none-there (inl e) = beside remZ (λ x y. y ≢ pos 0) e
+    none-there (inr e) = λ x y p q nz. absurd (nz (omega ints))
 
-    alone : a .min ≡ a .max → b .min ≡ b .max → C (remSingle w64 (a .min) (b .min))
-    alone d e = branch (in-test _ (top w64)) C (λ _. M.covering (λ x y s t nz f. rw (only d s, only e t) (record { low = omega ints; high = omega ints }))) (λ _. M.refusing)
+    settled : (IsBottom w64 a ⊎ IsBottom w64 b) ⊎ ((b .min ≡ pos 0) × (b .max ≡ pos 0)) → RemRefused a b → ⊥
+    settled (inl (inl e)) (inl t) = omega (ints, ap (λ i. i .min) (t .0))
+    settled (inl (inl e)) (inr r) = r .0 (made (a .min) (a .max) MAX MIN (e .0) (e .1))
+    settled (inl (inr e)) (inl t) = omega (ints, ap (λ i. i .min) (t .1))
+    settled (inl (inr e)) (inr r) = omega (ints, r .2)
+    settled (inr e) (inl t) = omega (ints, ap (λ i. i .min) (t .1))
+    settled (inr e) (inr r) = omega (ints, r .2)
+
+    not-both : NotBottom w64 a → a ≢ bottom w64
+    not-both (inl n) e = n (ap (λ i. i .min) e)
+    not-both (inr n) e = n (ap (λ i. i .max) e)
+
+    one-only : a .min ≡ a .max → b .min ≡ b .max → RemRefused a b → MinByMinusOne w64 a b
+    one-only d e (inl t) = t
+    one-only d e (inr (n, inl s, h)) = absurd (s d)
+    one-only d e (inr (n, inr s, h)) = absurd (s e)
+
+    alone : Proper w64 a → a .min ≡ a .max → b .min ≡ b .max → C (remSingle w64 (a .min) (b .min))
+    alone p d e = same-reason inl (one-only d e) (alone-covers (fits w64 (a .min) (p .above) (omega ints)) d e)
+
+    fitted : Several a b → SFits w64 (maxℤ (pos (natAbs (b .min))) (pos (natAbs (b .max)))) → RemRefused a b → ⊥
+    fitted (inl s) f (inl t) = s (ap (λ i. i .min) (t .0) ∙ sym (ap (λ i. i .max) (t .0)))
+    fitted (inr s) f (inl t) = s (ap (λ i. i .min) (t .1) ∙ sym (ap (λ i. i .max) (t .1)))
+    fitted s f (inr r) = least-beyond d (r .2) f
 
 -- ---- least
--- no end is MIN or MAX
-pub record Inner (i : Interval) : Type 0 where
-  pub low-end : (i .min ≢ MIN) × (i .min ≢ MAX)
-  pub high-end : (i .max ≢ MIN) × (i .max ≢ MAX)
-
 inner-is : (i : Interval) → i .min ≢ MAX → isBottom w64 i ≡ false
 inner-is i n = is-false (bottom-test w64 i) (λ e. n (e .0))
 
@@ -189,9 +217,6 @@ ordered none n = absurd (n .low-end .1 refl)
 
 pub add-least-inside : {a b : Interval} → Canonical w64 a → Canonical w64 b → Inner a → Inner b → SFits w64 (a .min +ℤ b .min) → SFits w64 (a .max +ℤ b .max) → Least _+ℤ_ a b (add a b)
 add-least-inside c d m n f g = rw (add-is m n f g) (add-least (ordered c m) (ordered d n))
-
-pub data LeastAnswer (f : ℤ → ℤ → ℤ) (a b : Interval) : Answer Interval → Type 0 where
-  least-is : {v : Interval} → Least f a b v → LeastAnswer f a b (is v)
 
 neg-is : {b : Interval} → Inner b → neg b ≡ is (negℤ (b .max) ⋯ negℤ (b .min))
 unfolding neg
@@ -219,13 +244,6 @@ pub sub-not-least : (sub (single (negℤ MAX)) (single (negℤ MAX)) ≡ is (pos
 unfolding sub neg add addMin addMax clamp _≟_ _≤?_ _<?_
 sub-not-least = (refl, sub-least (omega ints) (omega ints))
 
--- all four corner products fit
-pub record Corners-fit (a b : Interval) : Type 0 where
-  pub low-low : SFits w64 (a .min *ℤ b .min)
-  pub low-high : SFits w64 (a .min *ℤ b .max)
-  pub high-low : SFits w64 (a .max *ℤ b .min)
-  pub high-high : SFits w64 (a .max *ℤ b .max)
-
-pub mul-least-inside : {a b : Interval} → Proper w64 a → Proper w64 b → Corners-fit a b → Least _*ℤ_ a b (mul a b)
+pub mul-least-inside : {a b : Interval} → Proper w64 a → Proper w64 b → CornersFit a b → Least _*ℤ_ a b (mul a b)
 unfolding mul
 mul-least-inside {a} {b} p q f = rw (not-bottom p, not-bottom q, clamp-is w64 (f .low-low), clamp-is w64 (f .low-high), clamp-is w64 (f .high-low), clamp-is w64 (f .high-high)) (mul-least (p .ordered) (q .ordered))

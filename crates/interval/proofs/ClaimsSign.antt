@@ -14,20 +14,12 @@ use Rattle.sign.specs.Set as S
 use Rattle.sign.specs.Set.{Side, negative, nought, positive, sideOf, _has_}
 use Rattle.sign.proofs.Laws.{side-below, side-above}
 use Rattle.interval.specs.Set.{Interval, _∈_, Canonical, none}
+use Rattle.interval.specs.PortedPromise.{Occurs, ExactSign}
 use Rattle.interval.specs.Ported.{signOf, sideSign}
 use Rattle.interval.proofs.Test.{only-test}
 use Rattle.interval.proofs.Ends.{low-in, high-in}
 use Rattle.interval.proofs.Rem.{signs}
 use Rattle.interval.proofs.Canonical.{bottom-test, has-number}
-
--- the interval has a number on that side of 0
-pub record Occurs (a : Interval) (d : Side) : Type 0 where
-  pub number : ℤ
-  pub number-in : number ∈ a
-  pub side : sideOf number ≡ d
-
-abbrev pub Exact-sign : Interval → Sign → Type 0
-Exact-sign a s = (d : Side) → ((s has d) ≡ true) ↔ Occurs a d
 
 -- ---- a side, as an order
 was-negative : (x : ℤ) → sideOf x ≡ negative → x <ℤ pos 0
@@ -51,7 +43,7 @@ module _ {a : Interval} where
   decided (fails f) = (λ e. absurd (let z : _≡_ {A = ℕ} 0 1 = cc in omega ints), λ o. absurd (f o))
 
   -- a sign is exact if each of its three tests decides whether the side occurs
-  sides : (s : Sign) → Decides (Occurs a negative) (Occurs a negative → ⊥) (s has negative) → Decides (Occurs a nought) (Occurs a nought → ⊥) (s has nought) → Decides (Occurs a positive) (Occurs a positive → ⊥) (s has positive) → Exact-sign a s
+  sides : (s : Sign) → Decides (Occurs a negative) (Occurs a negative → ⊥) (s has negative) → Decides (Occurs a nought) (Occurs a nought → ⊥) (s has nought) → Decides (Occurs a positive) (Occurs a positive → ⊥) (s has positive) → ExactSign a s
   sides s n z p negative = decided n
   sides s n z p nought = decided z
   sides s n z p positive = decided p
@@ -81,7 +73,7 @@ module _ {a : Interval} where
   no-number : a .max <ℤ a .min → (d : Side) → Occurs a d → ⊥
   no-number h d o = let m = o .number-in in omega ints
 
-  side-exact : a .min ≤ℤ a .max → (a .min ≢ pos 0) ⊎ (a .max ≢ pos 0) → Exact-sign a (sideSign a)
+  side-exact : a .min ≤ℤ a .max → (a .min ≢ pos 0) ⊎ (a .max ≢ pos 0) → ExactSign a (sideSign a)
   unfolding sideSign
   side-exact o n =
       branch (lt-test (a .max) (pos 0)) E (λ h. sides Negative (holds (low-negative o (omega ints))) (fails (no-zero-below h)) (fails (no-positive (omega ints)))) λ f.
@@ -91,17 +83,17 @@ module _ {a : Interval} where
       sides Top (holds (low-negative o m)) (holds (zero-there k f)) (holds (high-positive o g))
     where
       E : Sign → Type 0
-      E = Exact-sign a
+      E = ExactSign a
 
       below : pos 0 ≤ℤ a .max → a .max ≤ℤ pos 0 → (a .min ≢ pos 0) ⊎ (a .max ≢ pos 0) → a .min <ℤ pos 0
       below f h (inl n) = omega (ints, from-≢ n)
       below f h (inr n) = absurd (n (omega ints))
 
-pub sign-exact : {a : Interval} → Canonical w64 a → Exact-sign a (signOf a)
+pub sign-exact : {a : Interval} → Canonical w64 a → ExactSign a (signOf a)
 unfolding signOf
 sign-exact {a} c =
-    branch (bottom-test w64 a) (Exact-sign a) (λ h. let e : a .max <ℤ a .min = omega (ints, signs w64) in sides Bottom (fails (no-number e negative)) (fails (no-number e nought)) (fails (no-number e positive))) λ n.
-    branch (only-test a (pos 0)) (Exact-sign a) (λ h. sides Zero (fails (no-negative (omega ints))) (holds (zero-there (omega ints) (omega ints))) (fails (no-positive (omega ints)))) λ z.
+    branch (bottom-test w64 a) (ExactSign a) (λ h. let e : a .max <ℤ a .min = omega (ints, signs w64) in sides Bottom (fails (no-number e negative)) (fails (no-number e nought)) (fails (no-number e positive))) λ n.
+    branch (only-test a (pos 0)) (ExactSign a) (λ h. sides Zero (fails (no-negative (omega ints))) (holds (zero-there (omega ints) (omega ints))) (fails (no-positive (omega ints)))) λ z.
     side-exact (has-number c n .ordered) z
 
 -- so each number of the interval is one of its sign
@@ -113,8 +105,8 @@ pub ordered-sign-covers : {a : Interval} → a .min ≤ℤ a .max → (x : ℤ) 
 unfolding signOf
 ordered-sign-covers {a} o x h = record { is = exact (sideOf x) .1 (record { number = x; number-in = h; side = refl }) }
   where
-    exact : Exact-sign a (signOf a)
+    exact : ExactSign a (signOf a)
     exact =
-        branch (bottom-test w64 a) (Exact-sign a) (λ h. absurd (omega (ints, signs w64))) λ n.
-        branch (only-test a (pos 0)) (Exact-sign a) (λ h. sides Zero (fails (no-negative (omega ints))) (holds (zero-there (omega ints) (omega ints))) (fails (no-positive (omega ints)))) λ z.
+        branch (bottom-test w64 a) (ExactSign a) (λ h. absurd (omega (ints, signs w64))) λ n.
+        branch (only-test a (pos 0)) (ExactSign a) (λ h. sides Zero (fails (no-negative (omega ints))) (holds (zero-there (omega ints) (omega ints))) (fails (no-positive (omega ints)))) λ z.
         side-exact o z

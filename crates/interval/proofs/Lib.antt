@@ -7,6 +7,9 @@ pub mod Truth
 pub mod Rem
 pub mod Remainder
 pub mod Canonical
+pub mod First
+pub mod Quotients
+pub mod Remainders
 pub mod Narrow
 pub mod Fill
 pub mod Clamp

@@ -28,7 +28,8 @@ use Rattle.interval.specs.declared.IntervalAnswer.the-variants as A
 use Rattle.interval.specs.declared.Pair.{Pair}
 use Rattle.interval.specs.declared.Single.{Single}
 use Rattle.interval.specs.Set.{Interval, _⋯_, single, isOnly}
-use Rattle.interval.specs.Answer.{is, refused, told}
+use Rattle.refusal.specs.Answer.{is, refused}
+use Rattle.interval.specs.Answer.{told}
 use Rattle.interval.specs.Ends.{greatestOf}
 use Rattle.interval.specs.Mended.{verdict, filled}
 use Rattle.interval.specs.Ported.{sameOne, weakCmp, addMin, addMax, add, neg, sub, largest, remBy, remLarge}

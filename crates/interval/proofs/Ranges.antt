@@ -22,7 +22,8 @@ use Rattle.whole.proofs.Sizes.{wider}
 use Rattle.whole.proofs.Calls.{called-1, called}
 use Rattle.interval.specs.declared.IntervalAnswer.{IntervalAnswer}
 use Rattle.interval.specs.Set.{Interval, _⋯_, _∈_, top}
-use Rattle.interval.specs.Answer.{is, refused, told}
+use Rattle.refusal.specs.Answer.{is, refused}
+use Rattle.interval.specs.Answer.{told}
 use Rattle.interval.specs.Ends.{rangeOf, leastOf, greatestOf, heldRange}
 use Rattle.interval.specs.Mended.{ranged, strict, lowCorner, highCorner}
 use Rattle.interval.proofs.Ends.{min-is, max-is}

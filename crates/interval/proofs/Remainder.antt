@@ -25,7 +25,8 @@ use Rattle.whole.proofs.Decides.{branch, both, lt-test, eq-test, yes, no, is-fa
 use Rattle.whole.proofs.Calls.{called}
 use Rattle.interval.specs.declared.IntervalAnswer.{IntervalAnswer}
 use Rattle.interval.specs.Set.{Interval, _⋯_, bottom, single, isOnly, empty?, canonical?}
-use Rattle.interval.specs.Answer.{Answer, is, refused, told}
+use Rattle.refusal.specs.Answer.{Answer, is, refused}
+use Rattle.interval.specs.Answer.{told}
 use Rattle.interval.specs.Mended.{strict, remSingle, remWithin}
 use Rattle.interval.proofs.Test.{only-test}
 use Rattle.interval.proofs.Rem.{signs, one-fits}

@@ -7,7 +7,8 @@ use lib.Signed.{_≤ℤ_, _<ℤ_}
 use Rattle.whole.proofs.Linear.{ints, split}
 use Rattle.whole.specs.Test.{_≤?_, _<?_, _≟_, truth}
 use Rattle.interval.specs.Set.{Interval, _⋯_, _∈_, single, isOnly}
-use Rattle.interval.specs.Mended.{verdict, ltV, leV, eqV, andV, orV, notV}
+use Rattle.interval.specs.Promise.{Some, All, Verdict, always, never, sometimes}
+use Rattle.interval.specs.Mended.{verdict, lessV, lessOrEqualV, equalsV, andV, orV, notV}
 use Rattle.whole.proofs.Decides.{Decides, holds, fails, le-test, lt-test, eq-test, both, either, isn't}
 use Rattle.interval.proofs.Test.{only-test}
 use Rattle.interval.proofs.Ends.{low-in, high-in}
@@ -33,19 +34,6 @@ module _ {A L B M R S : Type 0} where
   told (fails l) (fails m) (fails s) f g = zero-in
 
 module _ {a b : Interval} {x y : ℤ} (p : x ∈ a) (q : y ∈ b) where
-  pub lt-told : truth (x <? y) ∈ ltV a b
-  lt-told = told (lt-test _ _) (le-test _ _) (lt-test x y) (λ h s. omega ints) (λ h r. omega ints)
-
-  pub le-told : truth (x ≤? y) ∈ leV a b
-  le-told = told (le-test _ _) (lt-test _ _) (le-test x y) (λ h s. omega ints) (λ h r. omega ints)
-
-  pub eq-told : truth (x ≟ y) ∈ eqV a b
-  eq-told = told (both (le-test _ _) (le-test _ _)) (either (lt-test _ _) (lt-test _ _)) (eq-test x y) (λ h s. s (omega ints)) apart
-    where
-      apart : (a .max <ℤ b .min) ⊎ (b .max <ℤ a .min) → x ≡ y → ⊥
-      apart (inl h) r = omega ints
-      apart (inr h) r = omega ints
-
   -- logic. The tests on ranges are `isOnly`, 000's `singleton`
   pub and-told : truth ((x ≟ pos 1) && (y ≟ pos 1)) ∈ andV a b
   and-told = told (both (only-test a _) (only-test b _)) (either (only-test a _) (only-test b _)) (both (eq-test x _) (eq-test y _)) every none
@@ -74,24 +62,8 @@ not-told {a} {x} p = told (only-test a _) (only-test a _) (isn't (eq-test x _)) 
 
 -- ---- exact: the verdict is the one that the pairs call for
 
-pub record Pair (P : ℤ → ℤ → Type 0) (a b : Interval) : Type 0 where
-  pub left : ℤ
-  pub right : ℤ
-  pub left-in : left ∈ a
-  pub right-in : right ∈ b
-  pub at : P left right
-
-abbrev pub All : (ℤ → ℤ → Type 0) → Interval → Interval → Type 0
-All P a b = (x y : ℤ) → x ∈ a → y ∈ b → P x y
-
--- P holds for every pair; N, its contrary, for every pair; each for some
-pub data Verdict (P N : ℤ → ℤ → Type 0) (a b : Interval) : Interval → Type 0 where
-  always : All P a b → Verdict P N a b (single (pos 1))
-  never : All N a b → Verdict P N a b (single (pos 0))
-  sometimes : Pair P a b → Pair N a b → Verdict P N a b (pos 0 ⋯ pos 1)
-
 module _ {P N : ℤ → ℤ → Type 0} {a b : Interval} {A L B M : Type 0} where
-  settled : {every none : Bool} → Decides A L every → Decides B M none → (A → All P a b) → (B → All N a b) → (L → Pair N a b) → (M → Pair P a b) → Verdict P N a b (verdict every none)
+  settled : {every none : Bool} → Decides A L every → Decides B M none → (A → All P a b) → (B → All N a b) → (L → Some N a b) → (M → Some P a b) → Verdict P N a b (verdict every none)
   unfolding verdict
   settled (holds h) d f g l m = always (f h)
   settled (fails h) (holds k) f g l m = never (g k)
@@ -99,31 +71,31 @@ module _ {P N : ℤ → ℤ → Type 0} {a b : Interval} {A L B M : Type 0} wher
 
 module _ {a b : Interval} (h : a .min ≤ℤ a .max) (k : b .min ≤ℤ b .max) where
   module _ {P : ℤ → ℤ → Type 0} where
-    high-low : P (a .max) (b .min) → Pair P a b
+    high-low : P (a .max) (b .min) → Some P a b
     high-low p = record { left = a .max; right = b .min; left-in = high-in h; right-in = low-in k; at = p }
 
-    low-high : P (a .min) (b .max) → Pair P a b
+    low-high : P (a .min) (b .max) → Some P a b
     low-high p = record { left = a .min; right = b .max; left-in = low-in h; right-in = high-in k; at = p }
 
-  pub lt-exact : Verdict _<ℤ_ (λ x y. y ≤ℤ x) a b (ltV a b)
-  lt-exact = settled (lt-test _ _) (le-test _ _) (λ t x y p q. omega ints) (λ t x y p q. omega ints) high-low low-high
+  pub less-exact : Verdict _<ℤ_ (λ x y. y ≤ℤ x) a b (lessV a b)
+  less-exact = settled (lt-test _ _) (le-test _ _) (λ t x y p q. omega ints) (λ t x y p q. omega ints) high-low low-high
 
-  pub le-exact : Verdict _≤ℤ_ (λ x y. y <ℤ x) a b (leV a b)
-  le-exact = settled (le-test _ _) (lt-test _ _) (λ t x y p q. omega ints) (λ t x y p q. omega ints) high-low low-high
+  pub less-or-equal-exact : Verdict _≤ℤ_ (λ x y. y <ℤ x) a b (lessOrEqualV a b)
+  less-or-equal-exact = settled (le-test _ _) (lt-test _ _) (λ t x y p q. omega ints) (λ t x y p q. omega ints) high-low low-high
 
-  pub eq-exact : Verdict _≡_ _≢_ a b (eqV a b)
-  eq-exact = settled (both (le-test _ _) (le-test _ _)) (either (lt-test _ _) (lt-test _ _)) (λ t x y p q. omega ints) apart differ meet
+  pub equals-exact : Verdict _≡_ _≢_ a b (equalsV a b)
+  equals-exact = settled (both (le-test _ _) (le-test _ _)) (either (lt-test _ _) (lt-test _ _)) (λ t x y p q. omega ints) apart differ meet
     where
       apart : (a .max <ℤ b .min) ⊎ (b .max <ℤ a .min) → All _≢_ a b
       apart (inl t) x y p q = omega ints
       apart (inr t) x y p q = omega ints
 
-      differ : (b .min <ℤ a .max) ⊎ (a .min <ℤ b .max) → Pair _≢_ a b
+      differ : (b .min <ℤ a .max) ⊎ (a .min <ℤ b .max) → Some _≢_ a b
       differ (inl t) = high-low (omega ints)
       differ (inr t) = low-high (omega ints)
 
       -- the greater of the two low ends is in both
-      meet : (b .min ≤ℤ a .max) × (a .min ≤ℤ b .max) → Pair _≡_ a b
+      meet : (b .min ≤ℤ a .max) × (a .min ≤ℤ b .max) → Some _≡_ a b
       meet t = elim (split (a .min) (b .min)) [
         | inl s ↦ record { left = b .min; right = b .min; left-in = record { low = s; high = t .0 }; right-in = low-in k; at = refl }
         | inr s ↦ record { left = a .min; right = a .min; left-in = low-in h; right-in = record { low = omega ints; high = t .1 }; at = refl }

@@ -1,16 +1,12 @@
--- What an answer tells, by document 01: its value, or the number by which it is refused.
-use Prim.Native.Nat.{ℕ}
+-- What an interval answer tells, by document 01: its value, or the number by which it is refused.
 use Rattle.refusal.specs.Number.{numberOf}
+use Rattle.refusal.specs.Answer.{Answer, is, refused}
 use Rattle.interval.specs.declared.Interval.{Interval}
 use Rattle.interval.specs.declared.Pair.{Pair}
 use Rattle.interval.specs.declared.IntervalAnswer.{IntervalAnswer}
 use Rattle.interval.specs.declared.IntervalAnswer.the-variants.{Is, Refused}
 use Rattle.interval.specs.declared.PairAnswer.{PairAnswer}
 use Rattle.interval.specs.declared.PairAnswer.the-variants as pair
-
-pub data Answer (A : Type 0) : Type 0 where
-  is : A → Answer A
-  refused : ℕ → Answer A
 
 abbrev pub told : IntervalAnswer → Answer Interval
 told (Is v) = is v

@@ -4,7 +4,7 @@ use Rattle.whole.specs.Whole.{minℤ, maxℤ}
 use Rattle.whole.specs.declared.Exact.{Exact}
 use Rattle.whole.specs.declared.Exact.the-variants.{Is, DoesNotFit}
 use Rattle.interval.specs.Set.{Interval, _⋯_}
-use Rattle.interval.specs.Answer.{Answer, is, refused}
+use Rattle.refusal.specs.Answer.{Answer, is, refused}
 use Rattle.interval.specs.Mended.{ranged}
 
 unfoldable pub rangeOf : Exact → Exact → Answer Interval

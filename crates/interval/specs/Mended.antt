@@ -8,7 +8,7 @@ use Rattle.whole.specs.Test.{_≤?_, _<?_, _≟_}
 use Rattle.whole.specs.Range.{least, greatest}
 use Rattle.whole.specs.Whole.{minℤ, maxℤ, min4, max4}
 use Rattle.interval.specs.Set.{Interval, _⋯_, _∈?_, top, bottom, single, isOnly, isBottom, empty?, canonical?}
-use Rattle.interval.specs.Answer.{Answer, is, refused}
+use Rattle.refusal.specs.Answer.{Answer, is, refused}
 
 -- the range from lo to hi, refused by 2 if an end doesn't fit
 abbrev pub ranged : Width → ℤ → ℤ → Answer Interval
@@ -77,29 +77,29 @@ verdict every none = pick every (single (pos 1)) (pick none (single (pos 0)) (po
 abbrev pub lenient : Width → Interval → Interval → Interval → Answer Interval
 lenient w a b v = pick (canonical? w a && canonical? w b) (is (pick (empty? a || empty? b) (pos 0 ⋯ pos 1) v)) (refused 1)
 
-abbrev pub ltV : Interval → Interval → Interval
-ltV a b = verdict (a .max <? b .min) (b .max ≤? a .min)
+abbrev pub lessV : Interval → Interval → Interval
+lessV a b = verdict (a .max <? b .min) (b .max ≤? a .min)
 
-abbrev pub leV : Interval → Interval → Interval
-leV a b = verdict (a .max ≤? b .min) (b .max <? a .min)
+abbrev pub lessOrEqualV : Interval → Interval → Interval
+lessOrEqualV a b = verdict (a .max ≤? b .min) (b .max <? a .min)
 
-abbrev pub eqV : Interval → Interval → Interval
-eqV a b = verdict ((a .max ≤? b .min) && (b .max ≤? a .min)) ((a .max <? b .min) || (b .max <? a .min))
+abbrev pub equalsV : Interval → Interval → Interval
+equalsV a b = verdict ((a .max ≤? b .min) && (b .max ≤? a .min)) ((a .max <? b .min) || (b .max <? a .min))
 
-unfoldable pub eq : Width → Interval → Interval → Answer Interval
-eq w a b = lenient w a b (eqV a b)
+unfoldable pub equals : Width → Interval → Interval → Answer Interval
+equals w a b = lenient w a b (equalsV a b)
 
-unfoldable pub lt : Width → Interval → Interval → Answer Interval
-lt w a b = lenient w a b (ltV a b)
+unfoldable pub less : Width → Interval → Interval → Answer Interval
+less w a b = lenient w a b (lessV a b)
 
-unfoldable pub gt : Width → Interval → Interval → Answer Interval
-gt w a b = lt w b a
+unfoldable pub greater : Width → Interval → Interval → Answer Interval
+greater w a b = less w b a
 
-unfoldable pub le : Width → Interval → Interval → Answer Interval
-le w a b = lenient w a b (leV a b)
+unfoldable pub lessOrEqual : Width → Interval → Interval → Answer Interval
+lessOrEqual w a b = lenient w a b (lessOrEqualV a b)
 
-unfoldable pub ge : Width → Interval → Interval → Answer Interval
-ge w a b = le w b a
+unfoldable pub greaterOrEqual : Width → Interval → Interval → Answer Interval
+greaterOrEqual w a b = lessOrEqual w b a
 
 -- the ends of previous, but the new ones where previous has none: as ported
 unfoldable pub narrowed : Width → Interval → Interval → Interval

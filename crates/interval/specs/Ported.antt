@@ -17,7 +17,7 @@ use Rattle.interval.specs.declared.Pair.{Pair}
 use Rattle.interval.specs.declared.Single.{Single}
 use Rattle.interval.specs.declared.Single.the-variants.{One, None as Many}
 use Rattle.interval.specs.Set.{Interval, _⋯_, top, bottom, single, isOnly, isBottom}
-use Rattle.interval.specs.Answer.{Answer, is, refused}
+use Rattle.refusal.specs.Answer.{Answer, is, refused}
 use Rattle.interval.specs.Mended.{filled, remSingle}
 
 -- ---- signs

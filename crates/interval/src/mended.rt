@@ -52,35 +52,35 @@ pub fn rem(a: Interval, b: Interval) -> IntervalAnswer
 
 // Whether every pair is equal, or none.
 pub fn equals(a: Interval, b: Interval) -> IntervalAnswer
-    ensures { λ r. ⌜ told r ≡ mended.eq w64 a b ⌝ }
+    ensures { λ r. ⌜ told r ≡ mended.equals w64 a b ⌝ }
 {
     sized::equals(Size::B64, a, b)
 }
 
 // Whether the left number is less in every pair, or in none.
 pub fn less(a: Interval, b: Interval) -> IntervalAnswer
-    ensures { λ r. ⌜ told r ≡ mended.lt w64 a b ⌝ }
+    ensures { λ r. ⌜ told r ≡ mended.less w64 a b ⌝ }
 {
     sized::less(Size::B64, a, b)
 }
 
 // Whether the left number is greater in every pair, or in none.
 pub fn greater(a: Interval, b: Interval) -> IntervalAnswer
-    ensures { λ r. ⌜ told r ≡ mended.gt w64 a b ⌝ }
+    ensures { λ r. ⌜ told r ≡ mended.greater w64 a b ⌝ }
 {
     sized::greater(Size::B64, a, b)
 }
 
 // Whether the left number is at most the right one in every pair, or in none.
 pub fn less_or_equal(a: Interval, b: Interval) -> IntervalAnswer
-    ensures { λ r. ⌜ told r ≡ mended.le w64 a b ⌝ }
+    ensures { λ r. ⌜ told r ≡ mended.lessOrEqual w64 a b ⌝ }
 {
     sized::less_or_equal(Size::B64, a, b)
 }
 
 // Whether the left number is at least the right one in every pair, or in none.
 pub fn greater_or_equal(a: Interval, b: Interval) -> IntervalAnswer
-    ensures { λ r. ⌜ told r ≡ mended.ge w64 a b ⌝ }
+    ensures { λ r. ⌜ told r ≡ mended.greaterOrEqual w64 a b ⌝ }
 {
     sized::greater_or_equal(Size::B64, a, b)
 }

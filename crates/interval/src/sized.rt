@@ -311,35 +311,35 @@ fn equal_never(a: Interval, b: Interval) -> bool
 
 // Whether every pair is equal, or none.
 pub fn equals(size: Size, a: Interval, b: Interval) -> IntervalAnswer
-    ensures { λ r. ⌜ told r ≡ mended.eq (widthOf size) a b ⌝ }
+    ensures { λ r. ⌜ told r ≡ mended.equals (widthOf size) a b ⌝ }
 {
     lenient(size, a, b, verdict(equal_ever(a, b), equal_never(a, b)))
 }
 
 // Whether the left number is less in every pair, or in none.
 pub fn less(size: Size, a: Interval, b: Interval) -> IntervalAnswer
-    ensures { λ r. ⌜ told r ≡ mended.lt (widthOf size) a b ⌝ }
+    ensures { λ r. ⌜ told r ≡ mended.less (widthOf size) a b ⌝ }
 {
     lenient(size, a, b, verdict(a.max < b.min, b.max <= a.min))
 }
 
 // Whether the left number is greater in every pair, or in none.
 pub fn greater(size: Size, a: Interval, b: Interval) -> IntervalAnswer
-    ensures { λ r. ⌜ told r ≡ mended.gt (widthOf size) a b ⌝ }
+    ensures { λ r. ⌜ told r ≡ mended.greater (widthOf size) a b ⌝ }
 {
     less(size, b, a)
 }
 
 // Whether the left number is at most the right one in every pair, or in none.
 pub fn less_or_equal(size: Size, a: Interval, b: Interval) -> IntervalAnswer
-    ensures { λ r. ⌜ told r ≡ mended.le (widthOf size) a b ⌝ }
+    ensures { λ r. ⌜ told r ≡ mended.lessOrEqual (widthOf size) a b ⌝ }
 {
     lenient(size, a, b, verdict(a.max <= b.min, b.max < a.min))
 }
 
 // Whether the left number is at least the right one in every pair, or in none.
 pub fn greater_or_equal(size: Size, a: Interval, b: Interval) -> IntervalAnswer
-    ensures { λ r. ⌜ told r ≡ mended.ge (widthOf size) a b ⌝ }
+    ensures { λ r. ⌜ told r ≡ mended.greaterOrEqual (widthOf size) a b ⌝ }
 {
     less_or_equal(size, b, a)
 }

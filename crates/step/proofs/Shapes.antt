@@ -2,28 +2,28 @@
 use mathlib.Core.Path.{_≡_, refl, sym, _∙_, ap}
 use mathlib.Core.Logic.{_≢_, _⊎_, inl, inr, ⊎-map}
 use mathlib.Core.Bool.{Bool, true, false, _&&_}
-use lib.Pow.{pow-pos}
 use lib.IntN.{ℤ, pos, negsuc}
 use lib.Signed.{_≤ℤ_, _<ℤ_, quotZ, remZ}
 use mir.Syntax.{Width}
-use mir.Val.{hbits, SFits}
+use mir.Val.{SFits}
 use Rattle.refusal.specs.declared.Refusal.{Refusal}
 use Rattle.refusal.specs.declared.Refusal.the-variants.{DivisorZero, ResultTooWide, NotLogical}
-use Rattle.whole.specs.Test.{_≤?_, _≟_}
+use Rattle.whole.specs.Test.{_≤?_, _≟_, truth}
 use Rattle.whole.specs.Range.{least, greatest}
-use Rattle.whole.proofs.Linear.{ints, from-≢}
-use Rattle.whole.proofs.Shapes.{lin}
+use Rattle.whole.proofs.Linear.{ints}
 use Rattle.whole.proofs.Fits.{fits, low, high}
-use Rattle.whole.proofs.Divide.{fits-rem, fits-quot, fits-quot-above}
 use Rattle.whole.proofs.Decides.{Decides, branch, both, weaken, le-test, equal, unequal}
-use Rattle.interval.specs.Answer.{Answer, is, refused}
+use Rattle.refusal.specs.Answer.{Answer, is, refused}
 use Rattle.interval.specs.declared.Interval.{Interval}
-use Rattle.interval.specs.Set.{_⋯_, _∈_, _∉_, _∈?_, top, single, Proper}
+use Rattle.interval.specs.Set.{_⋯_, _∈_, _∉_, _∈?_, top, single, Proper, Canonical, some, none}
 use Rattle.interval.specs.Mended.{verdict}
 use Rattle.interval.proofs.Test.{in-test, is-in, not-in, other}
-use Rattle.interval.proofs.Ends.{Least, Result, low-in, high-in}
+use Rattle.interval.specs.Results.{Covering, covering, refusing}
+use Rattle.interval.specs.Promise.{Exact, fitting, too-wide, Verdict, always, never, sometimes, Judged, judged, MinByMinusOne, Well, shown as well}
+use Rattle.interval.proofs.Ends.{low-in, high-in}
 use Rattle.interval.proofs.Rem.{proper, signs, one-fits}
-use Rattle.interval.proofs.Claims.{Exact, fitting, too-wide}
+use Rattle.interval.proofs.Canonical.{nothing}
+use Rattle.interval.proofs.Remainders.{min-by-minus-one, quotient-fits}
 use Rattle.step.specs.Run as S
 use Rattle.step.specs.Run.{bits, divided, logical}
 use Rattle.step.specs.Range.{Answered, shows, declines, fittingAll, dividedAll, logicalAll}
@@ -34,9 +34,9 @@ use Rattle.step.specs.Fair.{GivesIn, given, StopsOn, Fair, passes, refus
 in-top : {w : Width} {n : ℤ} → SFits w n → n ∈ top w
 in-top {w} {n} f = record { low = low w n f; high = high w n f }
 
-pub verdict-proper : {w : Width} (every none : Bool) → Proper w (verdict every none)
+pub verdict-proper : {w : Width} (s t : Bool) → Proper w (verdict s t)
 unfolding verdict
-verdict-proper {w} true none = proper (omega ints) (omega (ints, signs w)) (one-fits w)
+verdict-proper {w} true t = proper (omega ints) (omega (ints, signs w)) (one-fits w)
 verdict-proper {w} false true = proper (omega ints) (omega (ints, signs w)) (omega (ints, signs w))
 verdict-proper {w} false false = proper (omega ints) (omega (ints, signs w)) (one-fits w)
 
@@ -47,6 +47,21 @@ module _ {w : Width} {i j k : Interval} (p : Proper w i) (q : Proper w j) (r : P
   -- ---- never stops
   pub sure : {n : ℤ → ℤ → ℤ → ℤ} {v : Interval} → ((x y z : ℤ) → x ∈ i → y ∈ j → z ∈ k → n x y z ∈ v) → Proper w v → Fair w (λ x y z. Gives (n x y z)) i j k (shows v)
   sure f = passes (λ x y z s t u. given (f x y z s t u))
+
+  -- ---- a comparison: P, or its contrary N
+  module _ {P N : ℤ → ℤ → Type 0} {test : ℤ → ℤ → Bool} (d : (x y : ℤ) → Decides (P x y) (N x y) (test x y)) (apart : (x y : ℤ) → P x y → N x y → ⊥) where
+    told-in : {v : Interval} → Verdict P N i j v → (x y : ℤ) → x ∈ i → y ∈ j → truth (test x y) ∈ v
+    told-in (always h) x y s t = branch (d x y) (λ n. n ∈ single (pos 1)) (λ _. record { low = omega ints; high = omega ints }) (λ c. absurd (apart x y (h x y s t) c))
+    told-in (never h) x y s t = branch (d x y) (λ n. n ∈ single (pos 0)) (λ c. absurd (apart x y c (h x y s t))) (λ _. record { low = omega ints; high = omega ints })
+    told-in (sometimes h k) x y s t = branch (d x y) (λ n. n ∈ bits) (λ _. record { low = omega ints; high = omega ints }) (λ _. record { low = omega ints; high = omega ints })
+
+    told-proper : {v : Interval} → Verdict P N i j v → Proper w v
+    told-proper (always h) = proper (omega ints) (omega (ints, signs w)) (one-fits w)
+    told-proper (never h) = proper (omega ints) (omega (ints, signs w)) (omega (ints, signs w))
+    told-proper (sometimes h k) = proper (omega ints) (omega (ints, signs w)) (one-fits w)
+
+    pub compared : {a : Answer Interval} → Judged P N i j a → Fair w (λ x y z. Gives (truth (test x y))) i j k (fittingAll a)
+    compared (judged h) = sure (λ x y z s t u. told-in h x y s t) (told-proper h)
 
   -- ---- stops by 13 where the result doesn't fit
   fitting-gives : {v : Interval} {n : ℤ} → Proper w v → n ∈ v → GivesIn v (S.fitting w n)
@@ -65,24 +80,30 @@ module _ {w : Width} {i j k : Interval} (p : Proper w i) (q : Proper w j) (r : P
   pub data Shows (n : ℤ → ℤ → ℤ) : Answer Interval → Type 0 where
     shown : {v : Interval} → ((x y : ℤ) → x ∈ i → y ∈ j → n x y ∈ v) → Proper w v → Shows n (is v)
 
-  min-by-minus-one : quotZ (least w) (negsuc 0) ∉ top w
-  min-by-minus-one = inr (omega (lin, pow-pos (hbits w)))
-
   operand : (x : ℤ) → x ∈ i → SFits w x
   operand x s = fits w x (omega ints) (omega ints)
 
   -- the quotient fits, but at MIN and -1
   quotient : (least w ∉ i) ⊎ (negsuc 0 ∉ j) → (x y : ℤ) → x ∈ i → y ∈ j → quotZ x y ∈ top w
-  quotient (inl c) x y s t = let f : x ≢ least w = other s c in in-top (fits-quot-above w x y (operand x s) (omega (ints, from-≢ f)))
-  quotient (inr c) x y s t = in-top (fits-quot x y (operand x s) (other t c))
+  quotient (inl c) x y s t = in-top (quotient-fits (operand x s) (inl (other s c)))
+  quotient (inr c) x y s t = in-top (quotient-fits (operand x s) (inr (other t c)))
 
-  pub remainder : (x y : ℤ) → x ∈ i → remZ x y ∈ top w
-  remainder x y s = in-top (fits-rem y (operand x s))
+  -- an interval that has a number is not bottom
+  has-number : {v : Interval} {x : ℤ} → Canonical w v → x ∈ v → Proper w v
+  has-number (some pv) h = pv
+  has-number none h = absurd (nothing w h)
+
+  -- what a covering answer shows, where all results count and none is refused
+  pub shows-all : {n : ℤ → ℤ → ℤ} {Counts : ℤ → ℤ → Type 0} {R : Type 0} {a : Answer Interval} → Covering n Counts R i j a → Well w a → (R → ⊥) → ((x y : ℤ) → x ∈ i → y ∈ j → Counts x y) → Shows n a
+  shows-all (covering _ c) (well k) f g =
+      let h = c (i .min) (j .min) (low-in (p .ordered)) (low-in (q .ordered)) (g (i .min) (j .min) (low-in (p .ordered)) (low-in (q .ordered))) in
+      shown (λ x y s t. c x y s t (g x y s t)) (has-number k h)
+  shows-all (refusing m) k f g = absurd (f m)
 
   pub division : (n : ℤ → ℤ → ℤ) {a : Answer Interval} → (pos 0 ∉ j → ((x y : ℤ) → x ∈ i → y ∈ j → quotZ x y ∈ top w) → Shows n a) → Fair w (λ x y z. divided w x y (n x y)) i j k (dividedAll w i j (fittingAll a))
   division n {a} f =
       branch (in-test (pos 0) j) F (λ h. at (i .min) (pos 0) (low-in (p .ordered)) h (rw (equal (pos 0)))) λ nz.
-      branch (both (in-test (least w) i) (in-test (negsuc 0) j)) F (λ h. at (least w) (negsuc 0) (h .0) (h .1) (rw (unequal {x = negsuc 0} {y = pos 0} (λ e. omega ints), not-in min-by-minus-one))) λ c.
+      branch (both (in-test (least w) i) (in-test (negsuc 0) j)) F (λ h. at (least w) (negsuc 0) (h .0) (h .1) (rw (unequal {x = negsuc 0} {y = pos 0} (λ e. omega ints), not-in (min-by-minus-one w)))) λ c.
       through nz (quotient c) (f nz (quotient c))
     where
       F : Answered Interval → Type 0

@@ -7,7 +7,7 @@ use Rattle.refusal.specs.declared.Refusal.the-variants.{DivisorZero, ResultTooW
 use Rattle.whole.specs.Choice.{pick}
 use Rattle.whole.specs.Test.{_≤?_}
 use Rattle.whole.specs.Range.{least}
-use Rattle.interval.specs.Answer.{Answer, is, refused}
+use Rattle.refusal.specs.Answer.{Answer, is, refused}
 use Rattle.interval.specs.declared.Interval.{Interval}
 use Rattle.interval.specs.Set.{_∈?_, single, isOnly}
 use Rattle.interval.specs.Mended as M
@@ -44,13 +44,13 @@ rangeOp w Sub i j k = fittingAll (M.sub w i j)
 rangeOp w Mul i j k = fittingAll (M.mul w i j)
 rangeOp w Div i j k = dividedAll w i j (fittingAll (M.div w i j))
 rangeOp w Rem i j k = dividedAll w i j (fittingAll (M.rem w i j))
-rangeOp w Equals i j k = fittingAll (M.eq w i j)
+rangeOp w Equals i j k = fittingAll (M.equals w i j)
 rangeOp w And i j k = logicalAll i (logicalAll j (shows (andV i j)))
 rangeOp w Or i j k = logicalAll i (logicalAll j (shows (orV i j)))
-rangeOp w Less i j k = fittingAll (M.lt w i j)
-rangeOp w Greater i j k = fittingAll (M.gt w i j)
-rangeOp w LessOrEqual i j k = fittingAll (M.le w i j)
-rangeOp w GreaterOrEqual i j k = fittingAll (M.ge w i j)
+rangeOp w Less i j k = fittingAll (M.less w i j)
+rangeOp w Greater i j k = fittingAll (M.greater w i j)
+rangeOp w LessOrEqual i j k = fittingAll (M.lessOrEqual w i j)
+rangeOp w GreaterOrEqual i j k = fittingAll (M.greaterOrEqual w i j)
 rangeOp w Not i j k = logicalAll i (shows (notV i))
 rangeOp w Same i j k = shows i
 rangeOp w Choose i j k = logicalAll i (shows (chosenBy i j k (join j k)))

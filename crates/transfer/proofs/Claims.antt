@@ -19,7 +19,8 @@ use Rattle.interval.specs.declared.Interval.{Interval}
 use Rattle.interval.specs.declared.IntervalAnswer.{IntervalAnswer}
 use Rattle.interval.specs.declared.IntervalAnswer.the-variants as ranges
 use Rattle.interval.specs.Set.{top}
-use Rattle.interval.specs.Answer.{Answer, is, refused, told}
+use Rattle.refusal.specs.Answer.{Answer, is, refused}
+use Rattle.interval.specs.Answer.{told}
 use Rattle.interval.specs.Mended.{andV, orV, notV}
 use Rattle.interval.specs.Ported as I
 use Rattle.congruence.specs.declared.Congruence.{Congruence}

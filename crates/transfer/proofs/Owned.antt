@@ -13,7 +13,7 @@ use Rattle.refusal.specs.Number.{numberOf}
 use Rattle.refusal.specs.declared.Refusal.the-variants.{DoesNotFit, WouldAssert}
 use Rattle.interval.specs.declared.Interval.{Interval}
 use Rattle.interval.specs.Set.{_∈?_, top, isBottom, isOnly}
-use Rattle.interval.specs.Answer.{Answer, is, refused}
+use Rattle.refusal.specs.Answer.{Answer, is, refused}
 use Rattle.interval.specs.Ported as I
 use Rattle.congruence.specs.declared.Congruence.{Congruence}
 use Rattle.congruence.specs.declared.CongruenceAnswer.{CongruenceAnswer}

@@ -8,7 +8,7 @@ use Rattle.whole.specs.declared.Order.the-variants.{Less, Equal, Greater, None}
 use Rattle.refusal.specs.Number.{numberOf}
 use Rattle.interval.specs.declared.Interval.{Interval}
 use Rattle.interval.specs.Set.{_⋯_, top, single}
-use Rattle.interval.specs.Answer.{Answer, is, refused}
+use Rattle.refusal.specs.Answer.{Answer, is, refused}
 use Rattle.interval.specs.Mended.{andV, orV, notV}
 use Rattle.interval.specs.Ported.{add, sub, mul, rem, strictCmp, weakCmp, equalBy}
 use Rattle.transfer.specs.Operator.{other}

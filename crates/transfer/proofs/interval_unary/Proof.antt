@@ -1,7 +1,7 @@
 use mathlib.Core.Path.{refl, ap}
 use Rattle.whole.specs.Test.{_≟_}
 use Rattle.refusal.specs.Number.{numberOf}
-use Rattle.interval.specs.Answer.{is, refused}
+use Rattle.refusal.specs.Answer.{is, refused}
 use Rattle.transfer.specs.Ranges.{intervalUnary}
 use Rattle.transfer.proofs.Keys.{key, passed, other-called}
 use borrow.Author.Needs.{needs}

@@ -1,6 +1,6 @@
 use mathlib.Core.Path.{ap}
 use mir.Facts.{toZ-ofZ}
-use Rattle.interval.specs.Answer.{is}
+use Rattle.refusal.specs.Answer.{is}
 use Rattle.interval.specs.Ported as ported
 use Rattle.export.proofs.Put.{ranged}
 use borrow.Author.Needs.{needs}

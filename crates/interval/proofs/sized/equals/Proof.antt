@@ -1,5 +1,5 @@
 use borrow.Author.Needs.{needs}
-use Rattle.interval.specs.Mended.{eq}
+use Rattle.interval.specs.Mended.{equals}
 use Rattle.interval.proofs.Calls.{lenient-made}
 use Rattle.interval.proofs.sized.equals.Statement.{statement}
 use Rattle.interval.proofs.sized.equals.Tie as tie
@@ -17,7 +17,7 @@ lenient-requires : tie.Need-lenient-requires
 lenient-requires c κs = search needs
 
 returns : tie.Need-returns
-unfolding eq
+unfolding equals
 returns c = search lenient-made
 
 pub equals-spec : {M : Type 1} → statement M

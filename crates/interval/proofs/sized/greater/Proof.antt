@@ -1,5 +1,5 @@
 use borrow.Author.Needs.{needs}
-use Rattle.interval.specs.Mended.{gt}
+use Rattle.interval.specs.Mended.{greater}
 use Rattle.interval.proofs.sized.greater.Statement.{statement}
 use Rattle.interval.proofs.sized.greater.Tie as tie
 
@@ -7,7 +7,7 @@ less-requires : tie.Need-less-requires
 less-requires c κs = search needs
 
 returns : tie.Need-returns
-unfolding gt
+unfolding greater
 returns c = search needs
 
 pub greater-spec : {M : Type 1} → statement M

@@ -1,5 +1,5 @@
 use borrow.Author.Needs.{needs}
-use Rattle.interval.specs.Mended.{ge}
+use Rattle.interval.specs.Mended.{greaterOrEqual}
 use Rattle.interval.proofs.sized.greater_or_equal.Statement.{statement}
 use Rattle.interval.proofs.sized.greater_or_equal.Tie as tie
 
@@ -7,7 +7,7 @@ less-or-equal-requires : tie.Need-less-or-equal-requires
 less-or-equal-requires c κs = search needs
 
 returns : tie.Need-returns
-unfolding ge
+unfolding greaterOrEqual
 returns c = search needs
 
 pub greater-or-equal-spec : {M : Type 1} → statement M

@@ -1,6 +1,6 @@
 use borrow.Author.Needs.{needs}
 use Rattle.whole.proofs.Flags.{bools}
-use Rattle.interval.specs.Mended.{lt}
+use Rattle.interval.specs.Mended.{less}
 use Rattle.interval.proofs.Calls.{lenient-made}
 use Rattle.interval.proofs.sized.less.Statement.{statement}
 use Rattle.interval.proofs.sized.less.Tie as tie
@@ -12,7 +12,7 @@ lenient-requires : tie.Need-lenient-requires
 lenient-requires c κs = search needs
 
 returns : tie.Need-returns
-unfolding lt
+unfolding less
 returns c = search (lenient-made, bools) depth 8 fits 5000
 
 pub less-spec : {M : Type 1} → statement M
