@@ -12,6 +12,7 @@ use lib.Signed.{quotZ, remZ}
 use mir.Syntax.{Width, w64}
 use mir.Val.{SFits, toZ, ofZ}
 use mir.Facts.{toZ-ofZ}
+use Rattle.whole.specs.Range.{fits?}
 use Rattle.whole.specs.Divides.{gcd, floorRem}
 use Rattle.whole.specs.Exact.{exactly}
 use Rattle.whole.specs.declared.Exact.{Exact}
@@ -75,6 +76,12 @@ module _ (x y : ℤ) where
 
 pub magnitude-call : (x : ℤ) (r : ℕ) → r ≡ natAbs (toZ w64 (ofZ w64 x)) → SFits w64 x → r ≡ natAbs x
 magnitude-call = handed-1 natAbs
+
+pub fits-call : (u : Width) (x : ℤ) (r : Bool) → r ≡ fits? u (toZ w64 (ofZ w64 x)) → SFits w64 x → r ≡ fits? u x
+fits-call u = handed-1 (fits? u)
+
+pub fits-told : (u : Width) (x : ℤ) (r t : Bool) → r ≡ fits? u (toZ w64 (ofZ w64 x)) → SFits w64 x → r ≡ t → fits? u x ≡ t
+fits-told u x r t h p q = sym (fits-call u x r h p) ∙ q
 
 -- of results of other calls
 pub gcd-then-call : (u : Width) (x k y n r : Exact) → r ≡ gcdThen u k n → k ≡ x → n ≡ y → r ≡ gcdThen u x y

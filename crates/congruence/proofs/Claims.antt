@@ -3,23 +3,27 @@
 use mathlib.Core.Path.{_≡_, refl, ap, _∙_, subst}
 use mathlib.Core.Bool.{Bool, true, false, not, _&&_, _||_}
 use mathlib.Core.Logic.{_≢_, _↔_, _⊎_, inl, inr}
+use Prim.Native.Nat.{ℕ}
+use native.Mathlib.Omega.{arith}
 use lib.IntN.{ℤ, pos, negsuc, negℤ, natAbs, _+ℤ_, _-ℤ_, _*ℤ_}
 use lib.Signed.{quotZ}
 use mir.Syntax.{Width, w64}
 use mir.Val.{SFits}
+use Rattle.whole.specs.Choice.{pick}
 use Rattle.whole.specs.Test.{_≤?_, _<?_, _≟_, truth}
 use Rattle.whole.specs.Range.{fits?}
 use Rattle.whole.specs.Divides.{steps, gcd, lcm, floorRem}
 use Rattle.whole.specs.Exact.{exactly}
 use Rattle.whole.specs.declared.Order.{Order}
 use Rattle.whole.specs.declared.Order.the-variants.{Less, Equal, Greater, None}
-use Rattle.whole.proofs.Decides.{Decides, branch, yes, no}
+use Rattle.whole.proofs.Decides.{Decides, holds, fails, both, branch, is-true, is-false, is-fit, yes, no}
 use Rattle.congruence.specs.declared.Congruence.{Congruence}
+use Rattle.congruence.specs.declared.CongruenceAnswer.{CongruenceAnswer}
 use Rattle.congruence.specs.declared.CongruenceAnswer.the-variants.{Is}
 use Rattle.congruence.specs.declared.TruthAnswer.the-variants as truths
 use Rattle.congruence.specs.declared.OrderAnswer.the-variants as orders
-use Rattle.congruence.specs.Set.{cong, top, bottom, bottom?, _∈_, _⊆_, domain?, Canonical, form, Proper}
-use Rattle.congruence.specs.Answer.{within, within2, congruenceOf}
+use Rattle.congruence.specs.Set.{cong, top, bottom, bottom?, _∈_, _⊆_, domain?, domainAt?, InDomain, Canonical, form, Proper}
+use Rattle.congruence.specs.Answer.{within, within2, noValue, noTruth, noOrder}
 use Rattle.congruence.specs.Numbers.{formula, gcdThen, absThen, alike?, divides?}
 use Rattle.congruence.specs.Mended as mended
 use Rattle.congruence.specs.Ported as ported
@@ -53,10 +57,53 @@ canonical-unique a b p q f = lattice.unique a b p q (λ x. f x .0) (λ x. f x .1
 pub form-proper : (w : Width) (a : Congruence) → domain? a ≡ true → SFits w (a .constant) → SFits w (a .modulus) → Proper w (form a)
 form-proper w a = sets.form-proper a w
 
--- the mended operations take proper values as they are: `add w a b` is `Is (sum w a b)`, and so for the others
-pub mended-answers : (f : Congruence → Congruence → Congruence) (a b : Congruence) → Canonical a → Canonical b → mended.onForms f a b ≡ Is (f a b)
-unfolding within2
-mended-answers f a b p q = rw (sets.canonical-domain a p, sets.canonical-domain b q, sets.form-is a p, sets.form-is b q) refl
+-- ---- the domain of a width
+
+-- what an operation answers is the refusal just where the test of the domain fails
+refused-just : {A B C N : Type 0} (is : A → B) (refusal : B) → ((v : A) → is v ≡ refusal → ⊥) → {t : Bool} → Decides C N t → (C → N → ⊥) → (v : A) → pick t (is v) refusal ≡ refusal ↔ N
+refused-just is refusal other (holds c) f v = (λ e. absurd (other v e), λ n. absurd (f c n))
+refused-just is refusal other (fails n) f v = (λ e. n, λ e. refl)
+
+not-both : {A B : Type 0} → A × B → (A → ⊥) ⊎ (B → ⊥) → ⊥
+not-both (a, b) (inl f) = f a
+not-both (a, b) (inr f) = f b
+
+module _ (w : Width) (a b : Congruence) where
+  -- it has just the values of the domain both whose numbers are of the width
+  pub domain-of-width : domainAt? w a ≡ true ↔ InDomain w a
+  domain-of-width = (yes (sets.domain-at-test w a), λ d. is-true (sets.domain-at-test w a) (λ f. f d))
+
+  pub outside-of-width : domainAt? w a ≡ false ↔ (InDomain w a → ⊥)
+  outside-of-width = (no (sets.domain-at-test w a), λ f. is-false (sets.domain-at-test w a) f)
+
+  -- every mended operation is refused by 1 just outside of it: neg; those of two values; disjoint; the order
+  pub one-refused : (f : Congruence → Congruence) → mended.onForm w f a ≡ noValue ↔ (InDomain w a → ⊥)
+  one-refused f = refused-just Is noValue (λ v e. let z : _≡_ {A = ℕ} 0 1 = cc in omega arith) (sets.domain-at-test w a) (λ d g. g d) (f (form a))
+
+  pub two-refused : (f : Congruence → Congruence → Congruence) → mended.onForms w f a b ≡ noValue ↔ ((InDomain w a → ⊥) ⊎ (InDomain w b → ⊥))
+  two-refused f = refused-just Is noValue (λ v e. let z : _≡_ {A = ℕ} 0 1 = cc in omega arith) (both (sets.domain-at-test w a) (sets.domain-at-test w b)) not-both (f (form a) (form b))
+
+  pub disjoint-refused : mended.disjoint w a b ≡ noTruth ↔ ((InDomain w a → ⊥) ⊎ (InDomain w b → ⊥))
+  disjoint-refused = refused-just truths.Is noTruth (λ v e. let z : _≡_ {A = ℕ} 0 1 = cc in omega arith) (both (sets.domain-at-test w a) (sets.domain-at-test w b)) not-both (mended.apart? (form a) (form b))
+
+  pub order-refused : mended.partialCmp w a b ≡ noOrder ↔ ((InDomain w a → ⊥) ⊎ (InDomain w b → ⊥))
+  order-refused = refused-just orders.Is noOrder (λ v e. let z : _≡_ {A = ℕ} 0 1 = cc in omega arith) (both (sets.domain-at-test w a) (sets.domain-at-test w b)) not-both (mended.inclusion (form a) (form b))
+
+  -- they take proper values as they are: `add w a b` is `Is (sum w a b)`, and so for the others
+  pub mended-answers : (f : Congruence → Congruence → Congruence) → Proper w a → Proper w b → mended.onForms w f a b ≡ Is (f a b)
+  mended-answers f p q = rw (inside a p, inside b q, sets.form-is a (p .canonical), sets.form-is b (q .canonical)) refl
+    where
+      inside : (v : Congruence) → Proper w v → domainAt? w v ≡ true
+      inside v h = is-true (sets.domain-at-test w v) (λ f. f (sets.proper-domain w v h))
+
+-- at 64 bits the domain of the width is the domain: every i64 fits
+pub domain-at-64 : (a : Congruence) → SFits w64 (a .constant) → SFits w64 (a .modulus) → domainAt? w64 a ≡ domain? a
+unfolding domainAt?
+domain-at-64 a f g = rw (is-fit f, is-fit g) (go (domain? a))
+  where
+    go : (t : Bool) → (t && true) ≡ t
+    go true = refl
+    go false = refl
 
 -- ---- the mended lattice
 

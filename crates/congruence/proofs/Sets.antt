@@ -12,12 +12,12 @@ use mir.Val.{SFits}
 use Rattle.whole.specs.Divides.{Cong, floorRem}
 use Rattle.whole.proofs.Linear.{ints, wholes, read, abs}
 use Rattle.whole.proofs.Fits.{machine, range, zero-fits}
-use Rattle.whole.proofs.Decides.{Decides, eq-test, lt-test, both, either, weaken, is-true, is-false, yes, branch}
+use Rattle.whole.proofs.Decides.{Decides, eq-test, lt-test, fits-test, Beyond, not-beyond, both, either, weaken, is-true, is-false, yes, branch}
 use Rattle.whole.proofs.Divides.{zero-∣}
 use Rattle.whole.proofs.Congruence.{Cong-refl, Cong-sym, Cong-trans}
 use Rattle.whole.proofs.Floor.{floor-low, floor-high, floor-class, floor-zero, floor-only}
 use Rattle.congruence.specs.declared.Congruence.{Congruence}
-use Rattle.congruence.specs.Set.{cong, top, bottom, bottom?, _∈_, domain?, Canonical, single, nothing, reduced, form, Proper}
+use Rattle.congruence.specs.Set.{cong, top, bottom, bottom?, _∈_, domain?, Value, alone, spaced, empty, InDomain, domainAt?, Canonical, single, nothing, reduced, form, Proper}
 
 pub clash : _≡_ {A = Bool} true false → ⊥
 clash e = let z : _≡_ {A = ℕ} 0 1 = cc in omega arith
@@ -214,3 +214,38 @@ module _ (a : Congruence) where
       go : (k : ℤ) → pos 0 ≤ℤ k → SFits w k → Proper w (cong (floorRem c k) k)
       go (pos k) l g = reduced-proper w c k (λ e. f) g
       go (negsuc k) l g = absurd (l .le)
+
+-- ---- the domain of a width
+
+module _ (w : Width) (a : Congruence) where
+  -- a canonical value of the width is one of the domain, and so is a value whose form is asked for
+  pub proper-domain : Proper w a → InDomain w a
+  proper-domain p = record { value = go (p .canonical); constant-fits = p .constant-fits; modulus-fits = p .modulus-fits }
+    where
+      go : Canonical a → Value a
+      go (single e) = alone e
+      go (nothing e) = empty e
+      go (reduced h k) = spaced (omega ints) k
+
+  pub domain-at-test : Decides (InDomain w a) (InDomain w a → ⊥) (domainAt? w a)
+  unfolding domainAt?
+  domain-at-test = weaken there apart (both (domain-test a) (both (fits-test w (a .constant)) (fits-test w (a .modulus))))
+    where
+      there : ((a .modulus ≡ pos 0) ⊎ (((pos 0 <ℤ a .modulus) × (a .constant <ℤ a .modulus)) ⊎ (a ≡ bottom))) × (SFits w (a .constant) × SFits w (a .modulus)) → InDomain w a
+      there (v, (f, g)) = record { value = go v; constant-fits = f; modulus-fits = g }
+        where
+          go : (a .modulus ≡ pos 0) ⊎ (((pos 0 <ℤ a .modulus) × (a .constant <ℤ a .modulus)) ⊎ (a ≡ bottom)) → Value a
+          go (inl e) = alone e
+          go (inr (inl (h, k))) = spaced h k
+          go (inr (inr e)) = empty e
+
+      not-value : (a .modulus ≢ pos 0) × (((a .modulus ≤ℤ pos 0) ⊎ (a .modulus ≤ℤ a .constant)) × (a ≢ bottom)) → Value a → ⊥
+      not-value (f, (g, h)) (alone e) = f e
+      not-value (f, (inl i, h)) (spaced k l) = omega ints
+      not-value (f, (inr i, h)) (spaced k l) = omega ints
+      not-value (f, (g, h)) (empty e) = h e
+
+      apart : ((a .modulus ≢ pos 0) × (((a .modulus ≤ℤ pos 0) ⊎ (a .modulus ≤ℤ a .constant)) × (a ≢ bottom))) ⊎ (Beyond w (a .constant) ⊎ Beyond w (a .modulus)) → InDomain w a → ⊥
+      apart (inl f) d = not-value f (d .value)
+      apart (inr (inl f)) d = not-beyond (d .constant-fits) f
+      apart (inr (inr f)) d = not-beyond (d .modulus-fits) f

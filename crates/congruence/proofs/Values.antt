@@ -1,19 +1,18 @@
 -- What `search` is handed for the definitions on congruences, beside the `flags` of whole numbers.
-use mathlib.Core.Path.{_≡_, refl, sym, ap, _∙_}
+use mathlib.Core.Path.{_≡_, refl, sym, ap, ap₂, _∙_}
 use mathlib.Core.Bool.{Bool, true, false, not, _&&_, _||_}
 use Prim.Native.Nat.{ℕ}
 use lib.Dec.{eqb}
 use lib.IntN.{ℤ, pos}
-use mir.Syntax.{w64}
+use mir.Syntax.{Width, w64}
 use mir.Val.{SFits, toZ, ofZ}
 use mir.Facts.{toZ-ofZ}
 use Rattle.whole.specs.Test.{_≟_}
 use Rattle.whole.proofs.Fits.{machine, zero-fits}
 use Rattle.whole.proofs.Flags.{bools, eq-yes, eq-no, eq-is}
 use Rattle.congruence.specs.declared.Congruence.{Congruence}
-use Rattle.congruence.specs.Set.{cong, bottom?, domain?, singles?, form}
+use Rattle.congruence.specs.Set.{cong, bottom?, domain?, domainAt?, singles?, form}
 use Rattle.congruence.specs.Numbers.{divides?}
-use Rattle.congruence.specs.Answer.{within2}
 use Rattle.congruence.specs.Ported as ported
 use Rattle.congruence.specs.Mended as mended
 
@@ -52,16 +51,24 @@ inside-told a b r t p q = sym p ∙ q
 pub apart-told : (a b : Congruence) (r t : Bool) → r ≡ mended.apart? a b → r ≡ t → mended.apart? a b ≡ t
 apart-told a b r t p q = sym p ∙ q
 
+-- what an operation answers, by what its calls ensure: the test of the domain, the two canonical forms and the rule
+pub framed : {A B : Type 0} (frame : Bool → A → B) (rule : Congruence → Congruence → A) {a b x y : Congruence} {t s : Bool} {v : A} {r : B} →
+    r ≡ frame t v → t ≡ s → v ≡ rule x y → x ≡ a → y ≡ b → r ≡ frame s (rule a b)
+framed frame rule h p q i j = h ∙ ap₂ frame p (q ∙ ap₂ rule i j)
+
 -- a comparison the other way round
-pub turned : (test : ℤ → ℤ → Bool) (a b : Congruence) → mended.onForms (mended.comparison test) a b ≡ mended.onForms (mended.comparison (λ x y. test y x)) b a
-unfolding within2 mended.comparison singles?
-turned test a b = simp (and-comm (domain? a) (domain? b), and-comm (form a .modulus ≟ pos 0) (form b .modulus ≟ pos 0))
+pub turned : (w : Width) (test : ℤ → ℤ → Bool) (a b : Congruence) → mended.onForms w (mended.comparison test) a b ≡ mended.onForms w (mended.comparison (λ x y. test y x)) b a
+unfolding mended.comparison singles?
+turned w test a b = simp (and-comm (domainAt? w a) (domainAt? w b), and-comm (form a .modulus ≟ pos 0) (form b .modulus ≟ pos 0))
   where
     and-comm : (s t : Bool) → (s && t) ≡ (t && s)
     and-comm true true = refl
     and-comm true false = refl
     and-comm false true = refl
     and-comm false false = refl
+
+pub domain-at-told : (w : Width) (a : Congruence) (r t : Bool) → r ≡ domainAt? w a → r ≡ t → domainAt? w a ≡ t
+domain-at-told w a r t p q = sym p ∙ q
 
 pub domain-told : (a : Congruence) (r t : Bool) → r ≡ domain? a → r ≡ t → domain? a ≡ t
 domain-told a r t p q = sym p ∙ q
@@ -101,4 +108,4 @@ fits-0 = zero-fits
 pub fits-1 : SFits w64 (pos 1)
 fits-1 = omega machine
 
-pub ruleset values = (bottom-told, domain-told, both-told, either-told, built, and-is, and-off, or-is, or-on, not-on, not-off, equal-bits, other-bits, differ-is, fits-0, fits-1, bools)
+pub ruleset values = (bottom-told, domain-told, domain-at-told, both-told, either-told, built, and-is, and-off, or-is, or-on, not-on, not-off, equal-bits, other-bits, differ-is, fits-0, fits-1, bools)

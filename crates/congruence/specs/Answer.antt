@@ -67,3 +67,13 @@ within outside a answer = pick (domain? a) answer outside
 
 unfoldable pub within2 : {A : Type 0} → A → Congruence → Congruence → A → A
 within2 outside a b answer = pick (domain? a && domain? b) answer outside
+
+-- what a mended operation answers where a test says that its arguments are in the domain
+abbrev pub valued : Bool → Congruence → CongruenceAnswer
+valued inside v = pick inside (value.Is v) noValue
+
+abbrev pub truthful : Bool → Bool → TruthAnswer
+truthful inside t = pick inside (truth.Is t) noTruth
+
+abbrev pub ranked : Bool → Order → OrderAnswer
+ranked inside o = pick inside (order.Is o) noOrder

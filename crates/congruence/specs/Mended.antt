@@ -16,14 +16,11 @@ use Rattle.whole.specs.declared.Order.{Order}
 use Rattle.whole.specs.declared.Order.the-variants.{Less, Equal, Greater, None}
 use Rattle.congruence.specs.declared.Congruence.{Congruence}
 use Rattle.congruence.specs.declared.CongruenceAnswer.{CongruenceAnswer}
-use Rattle.congruence.specs.declared.CongruenceAnswer.the-variants.{Is}
 use Rattle.congruence.specs.declared.TruthAnswer.{TruthAnswer}
-use Rattle.congruence.specs.declared.TruthAnswer.the-variants as truths
 use Rattle.congruence.specs.declared.OrderAnswer.{OrderAnswer}
-use Rattle.congruence.specs.declared.OrderAnswer.the-variants as orders
-use Rattle.congruence.specs.Set.{cong, top, bottom, bottom?, singles?, form}
+use Rattle.congruence.specs.Set.{cong, top, bottom, bottom?, domainAt?, singles?, form}
 use Rattle.congruence.specs.Numbers.{absThen, alike?, formula, divides?}
-use Rattle.congruence.specs.Answer.{within, within2, noValue, noTruth, noOrder}
+use Rattle.congruence.specs.Answer.{valued, truthful, ranked}
 
 -- ---- what the rules are made of
 
@@ -132,57 +129,56 @@ equality a b = pick (apart? a b) (cong (pos 0) (pos 0)) (pick (singles? a b) (co
 unfoldable pub comparison : (ℤ → ℤ → Bool) → Congruence → Congruence → Congruence
 comparison test a b = pick (singles? a b) (cong (truth (test (a .constant) (b .constant))) (pos 0)) top
 
--- ---- the operations
+-- ---- the operations: outside the domain of the width each is refused by 1, and values of it are first made canonical
 
--- an operation on canonical forms
-abbrev pub onForm : (Congruence → Congruence) → Congruence → CongruenceAnswer
-onForm f a = within noValue a (Is (f (form a)))
+abbrev pub onForm : Width → (Congruence → Congruence) → Congruence → CongruenceAnswer
+onForm w f a = valued (domainAt? w a) (f (form a))
 
-abbrev pub onForms : (Congruence → Congruence → Congruence) → Congruence → Congruence → CongruenceAnswer
-onForms f a b = within2 noValue a b (Is (f (form a) (form b)))
+abbrev pub onForms : Width → (Congruence → Congruence → Congruence) → Congruence → Congruence → CongruenceAnswer
+onForms w f a b = valued (domainAt? w a && domainAt? w b) (f (form a) (form b))
 
 abbrev pub neg : Width → Congruence → CongruenceAnswer
-neg w = onForm (negative w)
+neg w = onForm w (negative w)
 
 abbrev pub add : Width → Congruence → Congruence → CongruenceAnswer
-add w = onForms (sum w)
+add w = onForms w (sum w)
 
 abbrev pub sub : Width → Congruence → Congruence → CongruenceAnswer
-sub w = onForms (difference w)
+sub w = onForms w (difference w)
 
 abbrev pub mul : Width → Congruence → Congruence → CongruenceAnswer
-mul w = onForms (product w)
+mul w = onForms w (product w)
 
 abbrev pub div : Width → Congruence → Congruence → CongruenceAnswer
-div w = onForms (quotient w)
+div w = onForms w (quotient w)
 
 abbrev pub join : Width → Congruence → Congruence → CongruenceAnswer
-join w = onForms (joint w)
+join w = onForms w (joint w)
 
 abbrev pub meet : Width → Congruence → Congruence → CongruenceAnswer
-meet w = onForms (common w)
+meet w = onForms w (common w)
 
 -- of the new value and the previous one
 abbrev pub widen : Width → Congruence → Congruence → CongruenceAnswer
 widen = join
 
-abbrev pub disjoint : Congruence → Congruence → TruthAnswer
-disjoint a b = within2 noTruth a b (truths.Is (apart? (form a) (form b)))
+abbrev pub disjoint : Width → Congruence → Congruence → TruthAnswer
+disjoint w a b = truthful (domainAt? w a && domainAt? w b) (apart? (form a) (form b))
 
-abbrev pub partialCmp : Congruence → Congruence → OrderAnswer
-partialCmp a b = within2 noOrder a b (orders.Is (inclusion (form a) (form b)))
+abbrev pub partialCmp : Width → Congruence → Congruence → OrderAnswer
+partialCmp w a b = ranked (domainAt? w a && domainAt? w b) (inclusion (form a) (form b))
 
-abbrev pub equals : Congruence → Congruence → CongruenceAnswer
-equals = onForms equality
+abbrev pub equals : Width → Congruence → Congruence → CongruenceAnswer
+equals w = onForms w equality
 
-abbrev pub less : Congruence → Congruence → CongruenceAnswer
-less = onForms (comparison _<?_)
+abbrev pub less : Width → Congruence → Congruence → CongruenceAnswer
+less w = onForms w (comparison _<?_)
 
-abbrev pub greater : Congruence → Congruence → CongruenceAnswer
-greater = onForms (comparison (λ x y. y <? x))
+abbrev pub greater : Width → Congruence → Congruence → CongruenceAnswer
+greater w = onForms w (comparison (λ x y. y <? x))
 
-abbrev pub lessOrEqual : Congruence → Congruence → CongruenceAnswer
-lessOrEqual = onForms (comparison _≤?_)
+abbrev pub lessOrEqual : Width → Congruence → Congruence → CongruenceAnswer
+lessOrEqual w = onForms w (comparison _≤?_)
 
-abbrev pub greaterOrEqual : Congruence → Congruence → CongruenceAnswer
-greaterOrEqual = onForms (comparison (λ x y. y ≤? x))
+abbrev pub greaterOrEqual : Width → Congruence → Congruence → CongruenceAnswer
+greaterOrEqual w = onForms w (comparison (λ x y. y ≤? x))

@@ -8,6 +8,7 @@ use mir.Syntax.{Width}
 use mir.Val.{SFits}
 use Rattle.whole.specs.Choice.{pick}
 use Rattle.whole.specs.Test.{_<?_, _≟_}
+use Rattle.whole.specs.Range.{fits?}
 use Rattle.whole.specs.Divides.{Cong, floorRem}
 use Rattle.congruence.specs.declared.Congruence.{Congruence}
 
@@ -32,6 +33,22 @@ pub record _∈_ (x : ℤ) (a : Congruence) : Type 0 where
 -- m = 0, or m > 0 and c < m, or the bottom
 unfoldable pub domain? : Congruence → Bool
 domain? a = (a .modulus ≟ pos 0) || (((pos 0 <? a .modulus) && (a .constant <? a .modulus)) || bottom? a)
+
+-- the same in facts
+pub data Value (a : Congruence) : Type 0 where
+  alone : a .modulus ≡ pos 0 → Value a
+  spaced : pos 0 <ℤ a .modulus → a .constant <ℤ a .modulus → Value a
+  empty : a ≡ bottom → Value a
+
+-- the domain of a width: such a value, and both its numbers are of the width. It is what the mended operations take at that width
+pub record InDomain (w : Width) (a : Congruence) : Type 0 where
+  pub value : Value a
+  pub constant-fits : SFits w (a .constant)
+  pub modulus-fits : SFits w (a .modulus)
+
+-- the test of it
+unfoldable pub domainAt? : Width → Congruence → Bool
+domainAt? w a = domain? a && (fits? w (a .constant) && fits? w (a .modulus))
 
 -- m = 0, the bottom, or 0 ≤ c < m
 pub data Canonical (a : Congruence) : Type 0 where

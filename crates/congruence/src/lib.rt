@@ -11,6 +11,7 @@ pub mod mended;
 mod number;
 pub mod ported;
 mod residue;
+mod rules;
 pub mod sized;
 
 ghost use mathlib.Core.Path.{_≡_};

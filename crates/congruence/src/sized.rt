@@ -1,141 +1,110 @@
-// The mended operations at a size of numbers, on arguments made canonical, with canonical answers: lattice, arithmetic.
+// The mended operations at a size of numbers: right by what the values stand for, on arguments made canonical, with canonical answers.
+// A value outside the domain, or with a number that isn't one of the width, is refused by 1. Lattice, arithmetic, comparisons.
 use crate::Congruence;
 use crate::CongruenceAnswer;
-use crate::both_in_domain;
-use crate::both_single;
-use crate::divisible;
-use crate::either_bottom;
+use crate::OrderAnswer;
+use crate::TruthAnswer;
 use crate::form;
-use crate::formula;
-use crate::mended::has;
-use crate::mended::moduli_gcd;
-use crate::number::abs_then;
-use crate::number::distance;
-use crate::residue::overlap;
+use crate::rules;
 use refusal::Refusal;
-use whole::Exact;
+use whole::Order;
 use whole::Size;
-use whole::floored_remainder;
-use whole::gcd_u64;
-use whole::magnitude;
 ghost use mathlib.Core.Path.{_≡_};
-ghost use lib.IntN.{pos, _+ℤ_, _-ℤ_};
-ghost use lib.Signed.{_<ℤ_};
-ghost use Rattle.whole.specs.Divides.{floorRem};
+ghost use mathlib.Core.Bool.{_&&_};
+ghost use Rattle.whole.specs.Range.{fits?};
 ghost use Rattle.whole.specs.Sized.{widthOf};
+ghost use Rattle.congruence.specs.Answer.{valued, truthful, ranked};
+ghost use Rattle.congruence.specs.Set.{domainAt?};
 ghost use Rattle.congruence.specs.Mended as spec;
 
-// ---- what the operations are made of
+// ---- what is asked first
 
-// The class of z modulo g, or what is shown instead where one of the two doesn't fit.
-fn result_of(z: Exact, g: Exact, over: Congruence) -> Congruence
-    ensures { λ r. ⌜ r ≡ spec.resultOf z g over ⌝ }
+fn numbers_fit(size: Size, a: Congruence) -> bool
+    ensures { λ r. ⌜ r ≡ (fits? (widthOf size) (a .constant) && fits? (widthOf size) (a .modulus)) ⌝ }
 {
-    match z {
-        Exact::DoesNotFit => over,
-        Exact::Is(k) => match g {
-            Exact::DoesNotFit => over,
-            Exact::Is(n) => Congruence {
-                constant: floored_remainder(k, n),
-                modulus: n,
-            },
-        },
+    if size.fits(a.constant) {
+        size.fits(a.modulus)
+    } else {
+        false
     }
 }
 
-fn class_of(size: Size, z: i64, m: u64) -> Congruence
-    ensures { λ r. ⌜ r ≡ spec.classOf (widthOf size) z m ⌝ }
+// A value of the domain, and both its numbers are of the width.
+pub fn in_domain(size: Size, a: Congruence) -> bool
+    ensures { λ r. ⌜ r ≡ domainAt? (widthOf size) a ⌝ }
 {
-    result_of(Exact::Is(z), size.natural(m), Congruence::TOP)
-}
-
-fn only_of(z: Exact) -> Congruence
-    ensures { λ r. ⌜ r ≡ spec.onlyOf z ⌝ }
-{
-    match z {
-        Exact::Is(k) => Congruence {
-            constant: k,
-            modulus: 0,
-        },
-        Exact::DoesNotFit => Congruence::BOTTOM,
+    if a.in_domain() {
+        numbers_fit(size, a)
+    } else {
+        false
     }
 }
 
-// x + y modulo m, from 0 up: no sum of the way is m or more.
-fn sum_modulo(x: i64, y: i64, m: i64) -> i64
-    requires { ⌜ pos 0 <ℤ m ⌝ }
-    ensures { λ r. ⌜ r ≡ floorRem (x +ℤ y) m ⌝ }
+fn both_in_domain(size: Size, a: Congruence, b: Congruence) -> bool
+    ensures { λ r. ⌜ r ≡ (domainAt? (widthOf size) a && domainAt? (widthOf size) b) ⌝ }
 {
-    let a = floored_remainder(x, m);
-    let b = floored_remainder(y, m);
-    if a < m - b { a + b } else { a - (m - b) }
-}
-
-// x - y modulo m, from 0 up.
-fn difference_modulo(x: i64, y: i64, m: i64) -> i64
-    requires { ⌜ pos 0 <ℤ m ⌝ }
-    ensures { λ r. ⌜ r ≡ floorRem (x -ℤ y) m ⌝ }
-{
-    let a = floored_remainder(x, m);
-    let b = floored_remainder(y, m);
-    if b <= a { a - b } else { a + (m - b) }
-}
-
-// The numbers x + y modulo m.
-fn sum_class(size: Size, x: i64, y: i64, m: u64) -> Congruence
-    ensures { λ r. ⌜ r ≡ spec.exactOf (widthOf size) (x +ℤ y) m ⌝ }
-{
-    if m == 0 {
-        return only_of(size.add(x, y));
-    }
-    match size.natural(m) {
-        Exact::DoesNotFit => Congruence::TOP,
-        Exact::Is(k) => Congruence {
-            constant: sum_modulo(x, y, k),
-            modulus: k,
-        },
+    if in_domain(size, a) {
+        in_domain(size, b)
+    } else {
+        false
     }
 }
 
-// The numbers x - y modulo m.
-fn difference_class(size: Size, x: i64, y: i64, m: u64) -> Congruence
-    ensures { λ r. ⌜ r ≡ spec.exactOf (widthOf size) (x -ℤ y) m ⌝ }
+// What is answered inside the domain; 1 outside.
+fn value_if(inside: bool, v: Congruence) -> CongruenceAnswer
+    ensures { λ r. ⌜ r ≡ valued inside v ⌝ }
 {
-    if m == 0 {
-        return only_of(size.sub(x, y));
+    if inside {
+        CongruenceAnswer::Is(v)
+    } else {
+        CongruenceAnswer::Refused(Refusal::NotInDomain)
     }
-    match size.natural(m) {
-        Exact::DoesNotFit => Congruence::TOP,
-        Exact::Is(k) => Congruence {
-            constant: difference_modulo(x, y, k),
-            modulus: k,
-        },
+}
+
+fn truth_if(inside: bool, t: bool) -> TruthAnswer
+    ensures { λ r. ⌜ r ≡ truthful inside t ⌝ }
+{
+    if inside {
+        TruthAnswer::Is(t)
+    } else {
+        TruthAnswer::Refused(Refusal::NotInDomain)
+    }
+}
+
+fn order_if(inside: bool, o: Order) -> OrderAnswer
+    ensures { λ r. ⌜ r ≡ ranked inside o ⌝ }
+{
+    if inside {
+        OrderAnswer::Is(o)
+    } else {
+        OrderAnswer::Refused(Refusal::NotInDomain)
     }
 }
 
 // ---- lattice
 
-fn joint(size: Size, a: Congruence, b: Congruence) -> Congruence
-    ensures { λ r. ⌜ r ≡ spec.joint (widthOf size) a b ⌝ }
+pub fn disjoint(size: Size, a: Congruence, b: Congruence) -> TruthAnswer
+    ensures { λ r. ⌜ r ≡ spec.disjoint (widthOf size) a b ⌝ }
 {
-    if a.is_bottom() {
-        return b;
-    }
-    if b.is_bottom() {
-        return a;
-    }
-    let d = distance(a.constant, b.constant);
-    class_of(size, a.constant, gcd_u64(moduli_gcd(a, b), d))
+    truth_if(both_in_domain(size, a, b), rules::apart(form(a), form(b)))
+}
+
+pub fn partial_cmp(size: Size, a: Congruence, b: Congruence) -> OrderAnswer
+    ensures { λ r. ⌜ r ≡ spec.partialCmp (widthOf size) a b ⌝ }
+{
+    order_if(
+        both_in_domain(size, a, b),
+        rules::inclusion(form(a), form(b)),
+    )
 }
 
 pub fn join(size: Size, a: Congruence, b: Congruence) -> CongruenceAnswer
     ensures { λ r. ⌜ r ≡ spec.join (widthOf size) a b ⌝ }
 {
-    if both_in_domain(a, b) {
-        CongruenceAnswer::Is(joint(size, form(a), form(b)))
-    } else {
-        CongruenceAnswer::Refused(Refusal::NotInDomain)
-    }
+    value_if(
+        both_in_domain(size, a, b),
+        rules::joint(size, form(a), form(b)),
+    )
 }
 
 pub fn widen(size: Size, new: Congruence, previous: Congruence) -> CongruenceAnswer
@@ -144,167 +113,90 @@ pub fn widen(size: Size, new: Congruence, previous: Congruence) -> CongruenceAns
     join(size, new, previous)
 }
 
-fn common(size: Size, a: Congruence, b: Congruence) -> Congruence
-    ensures { λ r. ⌜ r ≡ spec.common (widthOf size) a b ⌝ }
-{
-    if either_bottom(a, b) {
-        return Congruence::BOTTOM;
-    }
-    if a.modulus == 0 {
-        return if has(b, a.constant) {
-            a
-        } else {
-            Congruence::BOTTOM
-        };
-    }
-    if b.modulus == 0 {
-        return if has(a, b.constant) {
-            b
-        } else {
-            Congruence::BOTTOM
-        };
-    }
-    overlap(size, a.constant, a.modulus, b.constant, b.modulus)
-}
-
 pub fn meet(size: Size, a: Congruence, b: Congruence) -> CongruenceAnswer
     ensures { λ r. ⌜ r ≡ spec.meet (widthOf size) a b ⌝ }
 {
-    if both_in_domain(a, b) {
-        CongruenceAnswer::Is(common(size, form(a), form(b)))
-    } else {
-        CongruenceAnswer::Refused(Refusal::NotInDomain)
-    }
+    value_if(
+        both_in_domain(size, a, b),
+        rules::common(size, form(a), form(b)),
+    )
 }
 
 // ---- arithmetic
 
-fn negative(size: Size, a: Congruence) -> Congruence
-    ensures { λ r. ⌜ r ≡ spec.negative (widthOf size) a ⌝ }
-{
-    if a.is_bottom() {
-        return Congruence::BOTTOM;
-    }
-    difference_class(size, 0, a.constant, magnitude(a.modulus))
-}
-
 pub fn neg(size: Size, a: Congruence) -> CongruenceAnswer
     ensures { λ r. ⌜ r ≡ spec.neg (widthOf size) a ⌝ }
 {
-    if a.in_domain() {
-        CongruenceAnswer::Is(negative(size, form(a)))
-    } else {
-        CongruenceAnswer::Refused(Refusal::NotInDomain)
-    }
-}
-
-fn sum(size: Size, a: Congruence, b: Congruence) -> Congruence
-    ensures { λ r. ⌜ r ≡ spec.sum (widthOf size) a b ⌝ }
-{
-    if either_bottom(a, b) {
-        return Congruence::BOTTOM;
-    }
-    sum_class(size, a.constant, b.constant, moduli_gcd(a, b))
+    value_if(in_domain(size, a), rules::negative(size, form(a)))
 }
 
 pub fn add(size: Size, a: Congruence, b: Congruence) -> CongruenceAnswer
     ensures { λ r. ⌜ r ≡ spec.add (widthOf size) a b ⌝ }
 {
-    if both_in_domain(a, b) {
-        CongruenceAnswer::Is(sum(size, form(a), form(b)))
-    } else {
-        CongruenceAnswer::Refused(Refusal::NotInDomain)
-    }
-}
-
-fn difference(size: Size, a: Congruence, b: Congruence) -> Congruence
-    ensures { λ r. ⌜ r ≡ spec.difference (widthOf size) a b ⌝ }
-{
-    if either_bottom(a, b) {
-        return Congruence::BOTTOM;
-    }
-    difference_class(size, a.constant, b.constant, moduli_gcd(a, b))
+    value_if(
+        both_in_domain(size, a, b),
+        rules::sum(size, form(a), form(b)),
+    )
 }
 
 pub fn sub(size: Size, a: Congruence, b: Congruence) -> CongruenceAnswer
     ensures { λ r. ⌜ r ≡ spec.sub (widthOf size) a b ⌝ }
 {
-    if both_in_domain(a, b) {
-        CongruenceAnswer::Is(difference(size, form(a), form(b)))
-    } else {
-        CongruenceAnswer::Refused(Refusal::NotInDomain)
-    }
-}
-
-// What is shown where a number of the product's formula doesn't fit.
-fn over(a: Congruence, b: Congruence) -> Congruence
-    ensures { λ r. ⌜ r ≡ spec.over a b ⌝ }
-{
-    if both_single(a, b) {
-        Congruence::BOTTOM
-    } else {
-        Congruence::TOP
-    }
-}
-
-fn product(size: Size, a: Congruence, b: Congruence) -> Congruence
-    ensures { λ r. ⌜ r ≡ spec.product (widthOf size) a b ⌝ }
-{
-    if either_bottom(a, b) {
-        return Congruence::BOTTOM;
-    }
-    let g = formula(size, a.constant, a.modulus, b.constant, b.modulus);
-    result_of(size.mul(a.constant, b.constant), g, over(a, b))
+    value_if(
+        both_in_domain(size, a, b),
+        rules::difference(size, form(a), form(b)),
+    )
 }
 
 pub fn mul(size: Size, a: Congruence, b: Congruence) -> CongruenceAnswer
     ensures { λ r. ⌜ r ≡ spec.mul (widthOf size) a b ⌝ }
 {
-    if both_in_domain(a, b) {
-        CongruenceAnswer::Is(product(size, form(a), form(b)))
-    } else {
-        CongruenceAnswer::Refused(Refusal::NotInDomain)
-    }
-}
-
-fn by_number(size: Size, a: Congruence, d: i64) -> Congruence
-    ensures { λ r. ⌜ r ≡ spec.byNumber (widthOf size) a d ⌝ }
-{
-    if divisible(a, d) {
-        let q = size.quotient(a.constant, d);
-        result_of(
-            q,
-            abs_then(size, size.quotient(a.modulus, d)),
-            Congruence::BOTTOM,
-        )
-    } else {
-        Congruence::TOP
-    }
-}
-
-fn quotient_class(size: Size, a: Congruence, b: Congruence) -> Congruence
-    ensures { λ r. ⌜ r ≡ spec.quotient (widthOf size) a b ⌝ }
-{
-    if either_bottom(a, b) {
-        return Congruence::BOTTOM;
-    }
-    if b.modulus == 0 {
-        if b.constant == 0 {
-            Congruence::BOTTOM
-        } else {
-            by_number(size, a, b.constant)
-        }
-    } else {
-        Congruence::TOP
-    }
+    value_if(
+        both_in_domain(size, a, b),
+        rules::product(size, form(a), form(b)),
+    )
 }
 
 pub fn div(size: Size, a: Congruence, b: Congruence) -> CongruenceAnswer
     ensures { λ r. ⌜ r ≡ spec.div (widthOf size) a b ⌝ }
 {
-    if both_in_domain(a, b) {
-        CongruenceAnswer::Is(quotient_class(size, form(a), form(b)))
-    } else {
-        CongruenceAnswer::Refused(Refusal::NotInDomain)
-    }
+    value_if(
+        both_in_domain(size, a, b),
+        rules::quotient_class(size, form(a), form(b)),
+    )
+}
+
+// ---- comparisons
+
+pub fn equals(size: Size, a: Congruence, b: Congruence) -> CongruenceAnswer
+    ensures { λ r. ⌜ r ≡ spec.equals (widthOf size) a b ⌝ }
+{
+    value_if(
+        both_in_domain(size, a, b),
+        rules::equality(form(a), form(b)),
+    )
+}
+
+pub fn less(size: Size, a: Congruence, b: Congruence) -> CongruenceAnswer
+    ensures { λ r. ⌜ r ≡ spec.less (widthOf size) a b ⌝ }
+{
+    value_if(both_in_domain(size, a, b), rules::below(form(a), form(b)))
+}
+
+pub fn greater(size: Size, a: Congruence, b: Congruence) -> CongruenceAnswer
+    ensures { λ r. ⌜ r ≡ spec.greater (widthOf size) a b ⌝ }
+{
+    less(size, b, a)
+}
+
+pub fn less_or_equal(size: Size, a: Congruence, b: Congruence) -> CongruenceAnswer
+    ensures { λ r. ⌜ r ≡ spec.lessOrEqual (widthOf size) a b ⌝ }
+{
+    value_if(both_in_domain(size, a, b), rules::at_most(form(a), form(b)))
+}
+
+pub fn greater_or_equal(size: Size, a: Congruence, b: Congruence) -> CongruenceAnswer
+    ensures { λ r. ⌜ r ≡ spec.greaterOrEqual (widthOf size) a b ⌝ }
+{
+    less_or_equal(size, b, a)
 }

@@ -43,7 +43,7 @@ pub record Fourteen : Type 0 where
   pub number-6 : range.rem (single (pos 0)) (pos 1 ⋯ pos 3) ≡ is (negsuc 1 ⋯ pos 0)
   pub number-7 : (range.rem (single (pos 7)) (top w64) ≡ refused 2) × (rangeMended.rem w64 (single (pos 7)) (top w64) ≡ is (pos 0 ⋯ greatest w64))
   pub number-8 : (spacing.meet (cong (pos 1) (pos 2)) (cong (pos 2) (pos 3)) ≡ Is (cong (pos 1) (pos 6))) × (spacingMended.meet w64 (cong (pos 1) (pos 2)) (cong (pos 2) (pos 3)) ≡ Is (cong (pos 5) (pos 6)))
-  pub number-9 : (spacing.disjoint (cong (negsuc 0) (pos 0)) (cong (pos 2) (pos 3)) ≡ truths.Is true) × (spacingMended.disjoint (cong (negsuc 0) (pos 0)) (cong (pos 2) (pos 3)) ≡ truths.Is false)
+  pub number-9 : (spacing.disjoint (cong (negsuc 0) (pos 0)) (cong (pos 2) (pos 3)) ≡ truths.Is true) × (spacingMended.disjoint w64 (cong (negsuc 0) (pos 0)) (cong (pos 2) (pos 3)) ≡ truths.Is false)
   pub number-10 : (spacing.join (cong (pos 4) (pos 0)) (cong (pos 10) (pos 0)) ≡ Is (cong (pos 4) (pos 6))) × (spacingMended.join w64 (cong (pos 4) (pos 0)) (cong (pos 10) (pos 0)) ≡ Is (cong (pos 4) (pos 6)))
   pub number-11 : (spacing.neg (cong (pos 1) (pos 3)) ≡ Is (cong (negsuc 0) (pos 3))) × (spacingMended.neg w64 (cong (pos 1) (pos 3)) ≡ Is (cong (pos 2) (pos 3)))
   pub number-12 : (congruenceOf (spacing.div (cong (pos 0) (pos 6)) (cong (negsuc 1) (pos 0))) .number ≡ 3) × (spacingMended.div w64 (cong (pos 0) (pos 6)) (cong (negsuc 1) (pos 0)) ≡ Is (cong (pos 0) (pos 3)))

@@ -1,13 +1,7 @@
-use mathlib.Core.Path.{sym, _∙_, ap, ap₂}
-use mir.Syntax.{w64}
 use borrow.Author.Needs.{needs}
-use Rattle.whole.proofs.Flags.{pick-yes}
-use Rattle.congruence.proofs.Values.{values}
-use Rattle.congruence.specs.Answer.{within2}
-use Rattle.congruence.specs.Mended.{joint}
-use Rattle.congruence.specs.Set.{form}
+use Rattle.congruence.specs.Answer.{valued}
 use Rattle.congruence.specs.Mended as mended
-use Rattle.congruence.specs.declared.CongruenceAnswer.the-variants.{Is}
+use Rattle.congruence.proofs.Values.{framed}
 use Rattle.congruence.proofs.sized.join.Statement.{statement}
 use Rattle.congruence.proofs.sized.join.Tie as tie
 
@@ -23,15 +17,11 @@ form-requires-2 c κs = search needs
 joint-requires : tie.Need-joint-requires
 joint-requires c κs = search needs
 
-returns : tie.Need-returns
-unfolding within2
-returns c =
-    pick-yes _ _ _ _ (sym (c .before .before .before .before .both-in-domain .ensures) ∙ c .before .before .before .if1 .taken)
-    (ap Is (c .joint .ensures ∙ ap₂ (mended.joint _) (c .before .before .form .ensures) (c .before .form2 .ensures)))
+value-if-requires : tie.Need-value-if-requires
+value-if-requires c κs = search needs
 
-returns-2 : tie.Need-returns-2
-unfolding within2
-returns-2 c = search values
+returns : tie.Need-returns
+returns c = framed valued (mended.joint _) (c .value-if .ensures) (c .before .before .before .before .both-in-domain .ensures) (c .before .joint .ensures) (c .before .before .before .form .ensures) (c .before .before .form2 .ensures)
 
 pub join-spec : {M : Type 1} → statement M
 join-spec =
@@ -41,5 +31,5 @@ join-spec =
     form-requires
     form-requires-2
     joint-requires
-    returns
-    returns-2)
+    value-if-requires
+    returns)

@@ -1,0 +1,36 @@
+use borrow.Author.Needs.{needs}
+use Rattle.whole.specs.Test.{_≤?_}
+use Rattle.congruence.specs.Answer.{valued}
+use Rattle.congruence.specs.Mended as mended
+use Rattle.congruence.proofs.Values.{framed}
+use Rattle.congruence.proofs.sized.less_or_equal.Statement.{statement}
+use Rattle.congruence.proofs.sized.less_or_equal.Tie as tie
+
+both-in-domain-requires : tie.Need-both-in-domain-requires
+both-in-domain-requires c κs = search needs
+
+form-requires : tie.Need-form-requires
+form-requires c κs = search needs
+
+form-requires-2 : tie.Need-form-requires-2
+form-requires-2 c κs = search needs
+
+at-most-requires : tie.Need-at-most-requires
+at-most-requires c κs = search needs
+
+value-if-requires : tie.Need-value-if-requires
+value-if-requires c κs = search needs
+
+returns : tie.Need-returns
+returns c = framed valued (mended.comparison _≤?_) (c .value-if .ensures) (c .before .before .before .before .both-in-domain .ensures) (c .before .at-most .ensures) (c .before .before .before .form .ensures) (c .before .before .form2 .ensures)
+
+pub less-or-equal-spec : {M : Type 1} → statement M
+less-or-equal-spec =
+    tie.close
+    (tie.spec
+    both-in-domain-requires
+    form-requires
+    form-requires-2
+    at-most-requires
+    value-if-requires
+    returns)
