@@ -118,7 +118,7 @@ prove() { # NAME USUAL
     if [ -t 2 ]; then moving=yes; else moving=no; fi
     mkdir -p "$log" && : >"$log/desk.begun" || return 2
     for crate in $crates; do rm -f "$log/$crate.res"; done
-    tell "proving and building $1 first, $many crates: $hope"
+    tell "proving $1 first, $many crates: $hope"
     (cd "$root" && exec $(command -v setsid) rt check "$1") </dev/null >"$log/desk.build" 2>&1 &
     build=$!
     while kill -0 "$build" 2>/dev/null; do
