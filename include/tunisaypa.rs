@@ -81,9 +81,9 @@ pub fn shown(room: &[i64], k: usize) -> Option<Shown> {
 }
 
 fn sign_of(number: i64) -> Option<Sign> {
-    use Sign::*;
+    use self::Sign::*;
     let all = [Top, Bottom, Negative, Zero, Positive, NonNeg, NonZero, NonPos];
-    all.get(usize::try_from(number).ok()?).copied()
+    all.iter().zip(0..).find(|(_, n)| *n == number).map(|(sign, _)| *sign)
 }
 
 /// The greatest common divisor of the absolute values, or the number of the refusal.
