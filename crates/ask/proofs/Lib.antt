@@ -1,4 +1,4 @@
 pub mod Running
 pub mod Checking
 pub mod Sheeting
-pub mod Taking
+pub mod Storing

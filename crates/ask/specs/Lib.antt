@@ -1,4 +1,3 @@
 pub mod Taken
-pub mod Number
 pub mod Sheets
 pub mod Answer

@@ -1,57 +1,10 @@
--- Operands of a question: each stands after one space.
-use Prim.Native.Nat.{ℕ, _+_}
-use Prim.Native.String.{String}
-use mathlib.Core.List.{List, []}
-use mathlib.Core.Bool.{Bool, _&&_}
-use lib.Dec.{eqb}
-use lib.IntN.{ℤ}
-use lib.ListN.{length, getD, drop}
-use Rattle.whole.specs.Choice.{pick}
-use Rattle.text.specs.declared.decimal.Got.{Got}
-use Rattle.text.specs.declared.decimal.Got.the-variants.{Number, Nothing}
-use Rattle.text.specs.Ascii.{ascii}
-use Rattle.text.specs.Number.{numberAt}
-use Rattle.text.specs.Word.{letters, wordOf, firstCode, secondCode}
-use Rattle.ask.specs.declared.take.Pair.{Pair}
-use Rattle.ask.specs.declared.take.Pair.the-variants as pair
-use Rattle.ask.specs.declared.take.Single.{Single}
-use Rattle.ask.specs.declared.take.Single.the-variants as single
+-- How many numbers or bytes were stored.
+use Prim.Native.Nat.{ℕ}
 use Rattle.ask.specs.declared.take.Many.{Many}
 use Rattle.ask.specs.declared.take.Many.the-variants as many
 use Rattle.ask.specs.declared.take.HexBytes.{HexBytes}
 use Rattle.ask.specs.declared.take.HexBytes.the-variants as hexBytes
-use Rattle.ask.specs.declared.take.Quad.{Quad}
-use Rattle.ask.specs.declared.take.Quad.the-variants as quad
 
--- a number, and the place after it: 32 is the space
-unfoldable pub numberAfter : List ℕ → ℕ → Got
-numberAfter s at = pick (eqb (getD s at 0) 32) (numberAt s (at + 1)) Nothing
-
-abbrev pub andThen : {A : Type 0} → Got → A → (ℤ → ℕ → A) → A
-andThen (Number n p) none f = f n p
-andThen Nothing none f = none
-
--- one number that ends the line
-unfoldable pub oneAfter : List ℕ → ℕ → Single
-oneAfter s at = andThen (numberAfter s at) single.Not (λ a p. pick (eqb p (length s)) (single.Is a) single.Not)
-
--- two numbers that end the line
-unfoldable pub twoAfter : List ℕ → ℕ → Pair
-twoAfter s at =
-    andThen (numberAfter s at) pair.Not
-    (λ a p. andThen (numberAfter s p) pair.Not (λ b q. pick (eqb q (length s)) (pair.Are a b) pair.Not))
-
--- four numbers that end the line
-abbrev pub fourOf : ℤ → ℤ → Pair → Quad
-fourOf a b (pair.Are c d) = quad.Are a b c d
-fourOf a b pair.Not = quad.Not
-
-unfoldable pub fourAfter : List ℕ → ℕ → Quad
-fourAfter s at =
-    andThen (numberAfter s at) quad.Not
-    (λ a p. andThen (numberAfter s p) quad.Not (λ b q. fourOf a b (twoAfter s q)))
-
--- how many numbers or bytes were stored
 abbrev pub count : Many → ℕ
 count (many.Are n) = n
 count many.Not = 0
@@ -59,17 +12,3 @@ count many.Not = 0
 abbrev pub byteCount : HexBytes → ℕ
 byteCount (hexBytes.Are n next) = n
 byteCount hexBytes.Not = 0
-
--- a name, which is empty if there is none, and the place after it
-unfoldable pub nameAfter : List ℕ → ℕ → List ℕ
-nameAfter s at = pick (eqb (getD s at 0) 32) (wordOf s (at + 1)) []
-
-unfoldable pub nextAfter : List ℕ → ℕ → ℕ
-nextAfter s at = pick (eqb (getD s at 0) 32) (at + 1 + letters (drop (at + 1) s)) at
-
--- whether two numbers of a word are those of a name, so that the word is that name (`word-one` of `text`)
-abbrev pub codes : String → ℕ → ℕ → Bool
-codes n first second = eqb second (secondCode (ascii n)) && eqb first (firstCode (ascii n))
-
-abbrev pub named : String → List ℕ → Bool
-named n w = codes n (firstCode w) (secondCode w)

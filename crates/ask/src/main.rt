@@ -1,15 +1,8 @@
 // Answers the questions on standard input, a line each: the name of a family and of an operation, and its operands.
 mod answer;
-mod congruences;
-mod intervals;
 mod line;
-mod mended;
-mod names;
-mod number;
 mod sheets;
-mod signs;
 mod take;
-mod transfers;
 
 ghost use mathlib.Core.Path.{_≡_};
 ghost use Prim.Native.Nat.{_-_, _≤_};

@@ -7,19 +7,9 @@ use crate::take::HexBytes;
 use crate::take::Many;
 use desk::CheckAnswer;
 use panel::RunAnswer;
+use question::names::Name;
 use sheet::ReadAnswer;
 use sheet::WriteAnswer;
-
-// The operations' names, as text::word has them.
-const CHECK: u64 = 0x636865636b;
-
-const READ: u64 = 0x72656164;
-
-const RUN: u64 = 0x72756e;
-
-const WRITE: u64 = 0x7772697465;
-
-const SHORT: u64 = 0;
 
 // What reading the bytes answers: 1,024 numbers are room for any sheet.
 fn read_bytes(bytes: &[u8], out: &mut [u8], made: usize) -> usize
@@ -33,21 +23,6 @@ fn read_bytes(bytes: &[u8], out: &mut [u8], made: usize) -> usize
         }
         ReadAnswer::RefusedAt(why, place) => say::refused_at(out, made, place, why),
         ReadAnswer::Refused(why) => say::refused(out, made, why),
-    }
-}
-
-// A line has room for no more bytes than that.
-fn read(line: &[u8], at: usize, out: &mut [u8], made: usize) -> usize {
-    let mut room = [0u8; 16384];
-    match crate::take::bytes(line, at, &mut room) {
-        HexBytes::Are(n, next) => {
-            if next == line.len() {
-                read_bytes(&room[0..n], out, made)
-            } else {
-                say::not_understood(out, made)
-            }
-        }
-        HexBytes::Not => say::not_understood(out, made),
     }
 }
 
@@ -94,22 +69,6 @@ fn run_inputs(bytes: &[u8], inputs: &[i64], out: &mut [u8], made: usize) -> usiz
     }
 }
 
-fn run_bytes(bytes: &[u8], line: &[u8], at: usize, out: &mut [u8], made: usize) -> usize {
-    let mut room = [0i64; 16384];
-    match crate::take::numbers(line, at, &mut room) {
-        Many::Are(n) => run_inputs(bytes, &room[0..n], out, made),
-        Many::Not => say::not_understood(out, made),
-    }
-}
-
-fn run(line: &[u8], at: usize, out: &mut [u8], made: usize) -> usize {
-    let mut room = [0u8; 16384];
-    match crate::take::bytes(line, at, &mut room) {
-        HexBytes::Are(n, next) => run_bytes(&room[0..n], line, next, out, made),
-        HexBytes::Not => say::not_understood(out, made),
-    }
-}
-
 // What checking the bytes answers: 1,280 numbers are room for any sheet.
 fn check_bytes(bytes: &[u8], out: &mut [u8], made: usize) -> usize
     ensures { λ r. ⌜ Says (checkSaid (parse (now (bytes .entry)))) (now (out .entry)) made (now (out .exit)) r ⌝ }
@@ -130,34 +89,54 @@ fn check_bytes(bytes: &[u8], out: &mut [u8], made: usize) -> usize
     }
 }
 
-fn check(line: &[u8], at: usize, out: &mut [u8], made: usize) -> usize {
+// What is asked of bytes: reading and checking take no numbers, a run takes its inputs.
+fn of_bytes(op: Name, bytes: &[u8], inputs: &[i64], out: &mut [u8], made: usize) -> usize {
+    if inputs.len() == 0 {
+        return match op {
+            Name::Check => check_bytes(bytes, out, made),
+            Name::Read => read_bytes(bytes, out, made),
+            Name::Run => run_inputs(bytes, inputs, out, made),
+            _ => say::not_understood(out, made),
+        };
+    }
+    match op {
+        Name::Run => run_inputs(bytes, inputs, out, made),
+        _ => say::not_understood(out, made),
+    }
+}
+
+// The numbers after the bytes.
+fn with_numbers(
+    op: Name,
+    bytes: &[u8],
+    line: &[u8],
+    at: usize,
+    out: &mut [u8],
+    made: usize,
+) -> usize {
+    let mut room = [0i64; 16384];
+    match crate::take::numbers(line, at, &mut room) {
+        Many::Are(n) => of_bytes(op, bytes, &room[0..n], out, made),
+        Many::Not => say::not_understood(out, made),
+    }
+}
+
+// A line has room for no more bytes than that.
+fn on_bytes(op: Name, line: &[u8], at: usize, out: &mut [u8], made: usize) -> usize {
     let mut room = [0u8; 16384];
     match crate::take::bytes(line, at, &mut room) {
-        HexBytes::Are(n, next) => {
-            if next == line.len() {
-                check_bytes(&room[0..n], out, made)
-            } else {
-                say::not_understood(out, made)
-            }
-        }
+        HexBytes::Are(n, next) => with_numbers(op, &room[0..n], line, next, out, made),
         HexBytes::Not => say::not_understood(out, made),
     }
 }
 
 // The answer to what stands after the family's name.
 pub(crate) fn say(line: &[u8], at: usize, out: &mut [u8], made: usize) -> usize {
-    let op = crate::take::name(line, at);
-    let first = op.first;
-    let second = op.second;
-    let next = op.next;
-    match second {
-        SHORT => match first {
-            CHECK => check(line, next, out, made),
-            READ => read(line, next, out, made),
-            RUN => run(line, next, out, made),
-            WRITE => write(line, next, out, made),
-            _ => say::not_understood(out, made),
-        },
-        _ => say::not_understood(out, made),
+    let w = question::take::name(line, at);
+    let next = w.next;
+    let op = question::names::named(w);
+    match op {
+        Name::Write => write(line, next, out, made),
+        _ => on_bytes(op, line, next, out, made),
     }
 }

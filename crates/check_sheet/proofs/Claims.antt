@@ -54,8 +54,8 @@ line-size k v h g =
     omega (
       arith,
       digits-below 2 k h,
-      end-text-below (v .range .min) low,
-      end-text-below (v .range .max) high,
+      end-text-below w64 (v .range .min) low,
+      end-text-below w64 (v .range .max) high,
       decimal-below (v .spacing .constant) (g .spacing .constant-fits),
       decimal-below (v .spacing .modulus) (g .spacing .modulus-fits),
       name-below (v .sign),

@@ -17,7 +17,7 @@ use Rattle.desk.specs.Check.{Check, passed, refusedAt, checkSheet}
 -- range, `constant mod modulus`, sign
 abbrev pub shownText : Shown → List (List ℕ)
 shownText v =
-    rangeText (v .range .min) (v .range .max)
+    rangeText w64 (v .range .min) (v .range .max)
     ++ (ascii " " ∷ (spacingText (v .spacing .constant) (v .spacing .modulus) ++ (ascii " " ∷ (signName (v .sign) ∷ []))))
 
 -- a line: the step, and what it shows

@@ -2,6 +2,8 @@
 ghost use mathlib.Core.Path.{_≡_};
 ghost use mathlib.Core.List.{[], _∷_, _++_};
 ghost use Rattle.refusal.specs.Number.{numberOf};
+ghost use mir.Syntax.{w64};
+ghost use Rattle.whole.specs.Sized.{widthOf};
 ghost use Rattle.text.specs.Ascii.{ascii};
 ghost use Rattle.whole.specs.Choice.{pick};
 ghost use Rattle.text.specs.Decimal.{decimal, digits};
@@ -17,6 +19,7 @@ use refusal::Refusal;
 use sign::Sign;
 use text::Put;
 use whole::Order;
+use whole::Size;
 
 // The place after what was put. What has no room is left out.
 fn after(p: Put, made: usize) -> usize
@@ -120,26 +123,33 @@ pub fn count_line(out: &mut [u8], made: usize, words: &[u8], n: usize) -> usize
     word(out, f, b"\n")
 }
 
-fn range_end(out: &mut [u8], made: usize, n: i64) -> usize
-    ensures { λ r. ⌜ Says (endText n ∷ []) (now (out .entry)) made (now (out .exit)) r ⌝ }
+fn range_end(out: &mut [u8], made: usize, size: Size, n: i64) -> usize
+    ensures { λ r. ⌜ Says (endText (widthOf size) n ∷ []) (now (out .entry)) made (now (out .exit)) r ⌝ }
 {
-    after(text::end::put_end(out, made, n), made)
+    after(text::end::put_end(out, made, size, n), made)
 }
 
-fn range(out: &mut [u8], made: usize, low: i64, high: i64) -> usize
-    ensures { λ r. ⌜ Says (rangeText low high) (now (out .entry)) made (now (out .exit)) r ⌝ }
+fn range(out: &mut [u8], made: usize, size: Size, low: i64, high: i64) -> usize
+    ensures { λ r. ⌜ Says (rangeText (widthOf size) low high) (now (out .entry)) made (now (out .exit)) r ⌝ }
 {
     let a = word(out, made, b"[");
-    let b = range_end(out, a, low);
+    let b = range_end(out, a, size, low);
     let c = word(out, b, b", ");
-    let d = range_end(out, c, high);
+    let d = range_end(out, c, size, high);
     word(out, d, b"]")
 }
 
-pub fn interval(out: &mut [u8], made: usize, i: Interval) -> usize
-    ensures { λ r. ⌜ Says (rangeText (i .min) (i .max)) (now (out .entry)) made (now (out .exit)) r ⌝ }
+// A range of numbers of a width.
+pub fn interval_at(out: &mut [u8], made: usize, size: Size, i: Interval) -> usize
+    ensures { λ r. ⌜ Says (rangeText (widthOf size) (i .min) (i .max)) (now (out .entry)) made (now (out .exit)) r ⌝ }
 {
-    range(out, made, i.min, i.max)
+    range(out, made, size, i.min, i.max)
+}
+
+pub fn interval(out: &mut [u8], made: usize, i: Interval) -> usize
+    ensures { λ r. ⌜ Says (rangeText w64 (i .min) (i .max)) (now (out .entry)) made (now (out .exit)) r ⌝ }
+{
+    interval_at(out, made, Size::B64, i)
 }
 
 // Two intervals, with a space between them.

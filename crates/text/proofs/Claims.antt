@@ -7,7 +7,7 @@ use native.Mathlib.Omega.{arith}
 use lib.IntN.{ℤ}
 use lib.ListN.{length, getD, take, drop}
 use lib.Seq.{drop-append-seam, drop-at, take-at, length-take-le, sets, sets-eq}
-use mir.Syntax.{w64}
+use mir.Syntax.{Width, w64}
 use mir.Val.{SFits}
 use borrow.Author.Tests.{le-leb}
 use Rattle.text.specs.declared.decimal.Got.the-variants.{Number}
@@ -48,8 +48,8 @@ decimal-one x y f g e =
 
 -- ---- the ends of a range: two ends with the same text are the same number
 
-pub end-one : (x y : ℤ) → SFits w64 x → SFits w64 y → endText x ≡ endText y → x ≡ y
-end-one x y f g e = same-end f g (end-of x) (end-of y) e (decimal-one x y f g)
+pub end-one : (w : Width) (x y : ℤ) → SFits w64 x → SFits w64 y → endText w x ≡ endText w y → x ≡ y
+end-one w x y f g e = same-end f g (end-of w x) (end-of w y) e (decimal-one x y f g)
 
 -- ---- hexadecimal
 

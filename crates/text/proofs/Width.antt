@@ -6,7 +6,7 @@ use mathlib.Core.Logic.{⊎-elim}
 use native.Mathlib.Omega.{arith}
 use lib.IntN.{ℤ, pos, negsuc}
 use lib.ListN.{length}
-use mir.Syntax.{w64}
+use mir.Syntax.{Width, w64}
 use mir.Val.{SFits}
 use Rattle.text.specs.Decimal.{digits, decimal}
 use Rattle.text.specs.End.{endText}
@@ -34,10 +34,10 @@ decimal-below (negsuc n) f =
     let t : tens 18 ≡ 10000000000000000000 = refl in
     omega (arith, digits-below 18 (suc n) (omega (arith, t, f .sfits)))
 
-end-below : (z : ℤ) (t : List ℕ) → SFits w64 z → EndOf z t → length t ≤ 20
-end-below z _ f (top e) = omega arith
-end-below z _ f (bottom e) = omega arith
-end-below z _ f number = decimal-below z f
+end-below : (w : Width) (z : ℤ) (t : List ℕ) → SFits w64 z → EndOf w z t → length t ≤ 20
+end-below w z _ f (top e) = omega arith
+end-below w z _ f (bottom e) = omega arith
+end-below w z _ f number = decimal-below z f
 
-pub end-text-below : (z : ℤ) → SFits w64 z → length (endText z) ≤ 20
-end-text-below z f = end-below z (endText z) f (end-of z)
+pub end-text-below : (w : Width) (z : ℤ) → SFits w64 z → length (endText w z) ≤ 20
+end-text-below w z f = end-below w z (endText w z) f (end-of w z)

@@ -14,8 +14,8 @@ sign-requires c κs = search needs
 enum-known-a-2 : tie.Need-enum-known-a-2
 enum-known-a-2 c = search needs
 
-interval-requires : tie.Need-interval-requires
-interval-requires c κs = search needs
+interval-at-requires : tie.Need-interval-at-requires
+interval-at-requires c κs = search needs
 
 enum-known-a-3 : tie.Need-enum-known-a-3
 enum-known-a-3 c = search needs
@@ -75,7 +75,7 @@ same-length-2 : tie.Need-same-length-2
 same-length-2 c = search needs
 
 returns-2 : tie.Need-returns-2
-returns-2 c = rw (c .before .before .before .before .before .a2 .given .1) (c .before .before .interval .ensures)
+returns-2 c = rw (c .before .before .before .before .before .a2 .given .1) (c .before .before .interval-at .ensures)
 
 same-length-3 : tie.Need-same-length-3
 same-length-3 c = search needs
@@ -135,7 +135,7 @@ say-spec =
     enum-known-a
     sign-requires
     enum-known-a-2
-    interval-requires
+    interval-at-requires
     enum-known-a-3
     intervals-requires
     enum-known-a-4

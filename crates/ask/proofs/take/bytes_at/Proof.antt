@@ -1,6 +1,6 @@
 use mathlib.Core.Path.{sym, _∙_}
 use native.Mathlib.Omega.{arith}
-use Rattle.ask.proofs.Taking.{fitting}
+use Rattle.ask.proofs.Storing.{fitting}
 use borrow.Author.Needs.{needs}
 use Rattle.ask.proofs.take.bytes_at.Statement.{statement}
 use Rattle.ask.proofs.take.bytes_at.Tie as tie
