@@ -27,7 +27,7 @@ const NUMBERS: [i64; 16] = [
 
 const MODULI: [i64; 7] = [0, 1, 2, 3, 1 << 31, 1 << 62, i64::MAX];
 
-type Pair = (i64, i64);
+pub type Pair = (i64, i64);
 
 fn intervals() -> Vec<Pair> {
     ENDS.iter().flat_map(|a| ENDS.iter().map(|b| (*a, *b))).collect()
@@ -80,7 +80,7 @@ fn asked(out: &mut Vec<String>, name: &str, takes: Takes, thin: u64, r: &mut Ran
     }
 }
 
-fn pairs(out: &mut Vec<String>, name: &str, values: &[Pair], thin: u64, r: &mut Random) {
+pub fn pairs(out: &mut Vec<String>, name: &str, values: &[Pair], thin: u64, r: &mut Random) {
     for (a, b) in values {
         for (c, d) in values {
             if r.once_in(thin) {
@@ -131,6 +131,9 @@ fn sizes(family: &str) -> (u64, u64) {
 /// The fixed list of a family.
 pub fn list(family: &str) -> Option<Vec<String>> {
     let mut r = Random::new(2026);
+    if let Some(ends) = crate::sized::named(family) {
+        return Some(ends.list(&mut r));
+    }
     let (thin, random) = sizes(family);
     let mut out = match family {
         "transfer" => transfers(&mut r),

@@ -11,6 +11,7 @@ mod published;
 mod questions;
 mod selftest;
 mod sheet;
+mod sized;
 mod words;
 
 use std::io::{self, BufRead, Read, Write};
@@ -33,7 +34,8 @@ fn asked(words: &[&[u8]]) -> Option<String> {
         b"interval" => ported::interval_answer(rest),
         b"congruence" => ported::congruence_answer(rest),
         b"transfer" => ported::transfer_answer(rest),
-        b"mended" => mended::mended_answer(rest),
+        b"mended" => mended::mended_answer(model::W64, rest),
+        b"at" => mended::sized_answer(rest),
         b"sheet" => sheet::sheet_answer(rest),
         _ => None,
     }

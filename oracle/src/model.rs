@@ -286,7 +286,7 @@ impl Width {
     }
 
     pub fn canonical(self, i: Interval) -> bool {
-        i.min <= i.max || i == self.bottom()
+        self.fits(i.min) && self.fits(i.max) && (i.min <= i.max || i == self.bottom())
     }
 
     /// Refusal 1 goes first of all.
@@ -581,6 +581,11 @@ fn inverse(a: i128, n: i128) -> i128 {
 
 /// Operations of mended congruences, on values that are canonical already.
 impl Width {
+    /// A value of the domain, both of whose numbers are of the width.
+    pub fn in_domain(self, x: Congruence) -> bool {
+        self.fits(x.constant) && self.fits(x.modulus) && x.in_domain()
+    }
+
     /// The numbers x with x - c divisible by m, or c alone: bottom if that single number doesn't fit.
     fn spacing(self, constant: i128, modulus: i128) -> Congruence {
         if modulus == 0 && !self.fits(constant) {

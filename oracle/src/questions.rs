@@ -434,6 +434,8 @@ pub fn question(family: &str, k: u64, r: &mut Random) -> Option<String> {
         } else {
             line
         }
+    } else if let Some(ends) = crate::sized::named(family) {
+        ends.question(k, r)
     } else {
         let all = operations(family)?;
         let (name, takes) = all[(k % all.len() as u64) as usize];

@@ -223,12 +223,27 @@ fn intervals(t: &mut Tally) {
 }
 
 /// Every pair of canonical intervals at three bits, by counting.
+/// Every operation on two refuses by 1 if one isn't in the domain of the width.
+fn outside(t: &mut Tally, w: Width, x: Interval, y: Interval) {
+    let mut answers = vec![
+        w.interval_corners(x, y, |a, b| a + b),
+        w.interval_corners(x, y, |a, b| a - b),
+        w.interval_corners(x, y, |a, b| a * b),
+        w.interval_div(x, y),
+        w.interval_rem(x, y),
+        w.interval_narrow(x, y),
+    ];
+    answers.extend(COMPARISONS.map(|how| w.interval_compare(how, x, y)));
+    t.hold(answers.iter().all(|a| *a == Err(1)), || format!("outside {x:?} {y:?}"));
+}
+
 fn small_intervals(t: &mut Tally) {
     let w = Width { least: -4, greatest: 3 };
-    let mut values = vec![w.bottom()];
-    for a in w.least..=w.greatest {
-        values.extend((a..=w.greatest).map(|b| range(a, b)));
-    }
+    // every pair of ends, also those just outside of the width, which are refused by 1
+    let near = w.least - 1..=w.greatest + 1;
+    let values: Vec<Interval> = near.clone().flat_map(|a| near.clone().map(move |b| range(a, b))).collect();
+    let number = |n: i128| w.least <= n && n <= w.greatest;
+    let good = |i: &Interval| number(i.min) && number(i.max) && (i.min <= i.max || (i.min, i.max) == (w.greatest, w.least));
     let hull = |numbers: Vec<i128>| {
         if numbers.is_empty() {
             return Ok(w.bottom());
@@ -241,11 +256,17 @@ fn small_intervals(t: &mut Tally) {
         }
     };
     for x in &values {
-        t.hold(
-            w.interval_neg(*x) == hull((x.min..=x.max).map(|n| -n).collect()),
-            || format!("neg {x:?}"),
-        );
+        let expected = if good(x) {
+            hull((x.min..=x.max).map(|n| -n).collect())
+        } else {
+            Err(1)
+        };
+        t.hold(w.interval_neg(*x) == expected, || format!("neg {x:?}"));
         for y in &values {
+            if !good(x) || !good(y) {
+                outside(t, w, *x, *y);
+                continue;
+            }
             let pairs: Vec<(i128, i128)> = (x.min..=x.max)
                 .flat_map(|a| (y.min..=y.max).map(move |b| (a, b)))
                 .collect();
