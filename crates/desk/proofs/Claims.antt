@@ -177,6 +177,32 @@ module _ (w : Width) (bytes : List ℕ) (within : Within w bytes) where
           let z : _≡_ {A = ℕ} 0 1 = cc in
           absurd (omega arith)
 
+-- what stands in the room of a check that passed: five numbers for each of n shown values, and behind them what was there
+pub record Fives (n : ℕ) (shown : List ℤ) : Type 0 where
+  pub values : List Shown
+  pub rest : List ℤ
+  pub many : length values ≡ n
+  pub in-room : shown ≡ flat values ++ rest
+
+pub shown-fives : (bytes : List ℕ) (room shown : List ℤ) (n : ℕ) → Checked bytes room shown (Passed n) → Fives n shown
+shown-fives bytes room shown n h = by-parse (parse bytes) refl
+  where
+    by-check : (steps : List Step) (c : Check Shown) → checkSheet (stopping w64) steps ≡ c → passedWith n ≡ resultOf c .told → shown ≡ sets room 0 (resultOf c .numbers) → length steps * 5 ≤ length room → Fives n shown
+    by-check steps (refusedAt vs q) c t s e = let z : _≡_ {A = ℕ} 0 1 = cc in absurd (omega arith)
+    by-check steps (passed vs) c t s e =
+        let m : length vs ≡ n = cc in
+        let y : length vs ≡ length steps = Demand.shows-each (stopping w64) (actionsOf steps) vs c ∙ actions-length steps in
+        record { values = vs; rest = _; many = m; in-room = s ∙ sets-eq (flat vs) room 0 (omega (arith, length-flat vs)) }
+
+    by-parse : (g : Got (List Step)) → parse bytes ≡ g → Fives n shown
+    by-parse (got steps end) g =
+        let k = walked w64 steps room shown (passedWith n) (λ e. let z : _≡_ {A = ℕ} 0 1 = cc in omega arith) (rw (checks-read w64 bytes room steps end g) at h) in
+        by-check steps (k .check) (k .is) (k .tells) (k .stands) (k .enough)
+    by-parse (refused m p) g =
+        let e : passedWith n ≡ atByte m p = (rw (checks-refused w64 bytes room m p g) at h) .0 in
+        let z : _≡_ {A = ℕ} 0 1 = cc in
+        absurd (omega arith)
+
 -- and so for `check` and `run`, at 64 bits
 module _ (bytes : List ℕ) (lent : Bytes bytes) where
   pub passed-code : (room shown : List ℤ) (n : ℕ) → Checked bytes room shown (Passed n) → (ins : List ℤ) → InRanges bytes ins → (room′ numbers : List ℤ) (r : RunAnswer) → n ≤ length room′ → Ran bytes ins room′ numbers r → Reaches n shown numbers r

@@ -5,4 +5,6 @@ pub mod Answers
 pub mod Taken
 pub mod Told
 pub mod Claims
+pub mod Names
+pub mod ClaimsPlain
 pub mod ClaimsNumbers

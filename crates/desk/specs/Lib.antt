@@ -3,4 +3,5 @@ pub mod Promise
 pub mod Five
 pub mod Answer
 pub mod Kept
+pub mod Plain
 pub mod Fourteen
