@@ -314,7 +314,7 @@ impl Width {
         }
     }
 
-    /// Sums, differences and products reach their least and greatest at the corners.
+    /// Sums, differences and products reach their least and greatest at the corners, and so do quotients by divisors on one side of 0.
     pub fn interval_corners(self, x: Interval, y: Interval, work: impl Fn(i128, i128) -> i128) -> Answer<Interval> {
         self.admit(&[x, y])?;
         if x.empty() || y.empty() {
@@ -328,13 +328,16 @@ impl Width {
         ])
     }
 
+    /// The least range of all quotients; top where the divisor's range holds 0 besides other numbers, or MIN / -1 can occur.
     pub fn interval_div(self, x: Interval, y: Interval) -> Answer<Interval> {
         self.admit(&[x, y])?;
-        Ok(if x.empty() || y.empty() || y == range(0, 0) {
-            self.bottom()
-        } else {
-            self.top()
-        })
+        if x.empty() || y.empty() || y == range(0, 0) {
+            return Ok(self.bottom());
+        }
+        if y.holds(0) || (x.holds(self.least) && y.holds(-1)) {
+            return Ok(self.top());
+        }
+        self.interval_corners(x, y, |a, b| a / b)
     }
 
     pub fn interval_rem(self, x: Interval, y: Interval) -> Answer<Interval> {

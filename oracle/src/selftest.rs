@@ -280,6 +280,14 @@ fn small_intervals(t: &mut Tally) {
             t.hold(w.interval_corners(*x, *y, |a, b| a * b) == all(|a, b| a * b), || {
                 format!("mul {x:?} {y:?}")
             });
+            let quotients = if *y == range(0, 0) {
+                Ok(w.bottom())
+            } else if pairs.iter().any(|(a, b)| *b == 0 || !w.fits(a / b)) {
+                Ok(w.top())
+            } else {
+                all(|a, b| a / b)
+            };
+            t.hold(w.interval_div(*x, *y) == quotients, || format!("div {x:?} {y:?}"));
             if let Ok(rem) = w.interval_rem(*x, *y) {
                 let good = pairs.iter().filter(|p| p.1 != 0).all(|(a, b)| rem.holds(a % b));
                 t.hold(good && w.canonical(rem), || format!("rem {x:?} {y:?}"));

@@ -7,7 +7,6 @@ use lib.Signed.{_≤ℤ_, _<ℤ_}
 use mir.Syntax.{Width, w64}
 use Rattle.whole.proofs.Linear.{ints}
 use Rattle.whole.proofs.Linear as L
-use Rattle.whole.proofs.Decides.{branch, both}
 use Rattle.refusal.specs.Answer.{Answer, is, refused}
 use Rattle.refusal.proofs.Claims.{number-tells}
 use Rattle.interval.specs.declared.IntervalAnswer.{IntervalAnswer}
@@ -15,15 +14,14 @@ use Rattle.interval.specs.declared.IntervalAnswer.the-variants.{Is, Refu
 use Rattle.interval.specs.declared.PairAnswer.{PairAnswer}
 use Rattle.interval.specs.declared.PairAnswer.the-variants as pair
 use Rattle.interval.specs.Answer.{told, pairTold}
-use Rattle.interval.specs.Set.{Interval, _⋯_, _∈_, _∉_, top, bottom, Proper, Canonical, none}
+use Rattle.interval.specs.Set.{Interval, _∈_, _∉_, top, bottom, Proper, Canonical, none}
 use Rattle.interval.specs.Mended.{ranged, neg, add, sub, mul, div, rem, lessV, lessOrEqualV, equalsV, equals, less, greater, lessOrEqual, greaterOrEqual, magnitude, narrowed, filled, narrow, join}
-use Rattle.interval.specs.Results.{Least}
 use Rattle.interval.specs.Promise.{Operation, Arithmetic, Arithmetic₁, Exact, fitting, too-wide, Beyond, Quotients, Magnitude, Remainders, Comparison, Narrowing}
-use Rattle.interval.proofs.Test.{in-test}
-use Rattle.interval.proofs.Ends.{low-in, add-least, sub-least, mul-least, neg-least}
+use Rattle.interval.proofs.Ends.{add-least, sub-least, mul-least, neg-least}
 use Rattle.interval.proofs.Truth as T
 use Rattle.interval.proofs.Rem.{proper}
 use Rattle.interval.proofs.Canonical.{canonical-is}
+use Rattle.interval.proofs.Ranges.{ranged-exact}
 use Rattle.interval.proofs.Quotients.{quotients}
 use Rattle.interval.proofs.Remainders.{magnitude-found, magnitude-only, remainders}
 use Rattle.interval.proofs.Narrow.{narrow-outside, narrow-beside, narrow-ordered, narrow-emptied, between-them}
@@ -43,14 +41,6 @@ pair-fixed (pair.Refused q) (pair.Is v) e = let z : _≡_ {A = ℕ} 0 1 = cc in 
 pair-fixed (pair.Refused q) (pair.Refused r) e = ap pair.Refused (number-tells q r cc)
 
 -- ---- neg, add, sub, mul: the least range holding all exact results, or 2 where one of its ends doesn't fit
--- the range between the ends of a least range
-ranged-exact : {w : Width} {a b : Interval} → Proper w a → Proper w b → {f : ℤ → ℤ → ℤ} (lo hi : ℤ) → Least f a b (lo ⋯ hi) → Exact w f a b (ranged w lo hi)
-ranged-exact {w} {a} {b} p q {f} lo hi l = branch (both (in-test lo (top w)) (in-test hi (top w))) (Exact w f a b) (λ h. fitting l (proper ordered (h .0 .low) (h .1 .high))) (λ h. too-wide (lo ⋯ hi) l h)
-  where
-    -- it has a number: the result at the low ends
-    ordered : lo ≤ℤ hi
-    ordered = let c = l .covers (a .min) (b .min) (low-in (p .ordered)) (low-in (q .ordered)) in omega ints
-
 pub add-exact : (w : Width) → Arithmetic w (Exact w _+ℤ_) (add w)
 unfolding add
 add-exact w = arithmetic w _ (λ a b p q. ranged-exact p q _ _ (add-least (p .ordered) (q .ordered)))
@@ -90,10 +80,10 @@ module _ {w : Width} {f : ℤ → ℤ → ℤ} {a b : Interval} where
   only-refused-if (too-wide v l (inl c)) e = record { left = l .low-is .left; right = l .low-is .right; left-in = l .low-is .left-in; right-in = l .low-is .right-in; beyond = rw (l .low-is .at) c }
   only-refused-if (too-wide v l (inr c)) e = record { left = l .high-is .left; right = l .high-is .right; left-in = l .high-is .left-in; right-in = l .high-is .right-in; beyond = rw (l .high-is .at) c }
 
--- ---- div: top, bottom by [0, 0]; it has every quotient that fits
+-- ---- div: the least range of all quotients toward zero where they have bounds, else top, and bottom by [0, 0]
 pub div-rule : (w : Width) → Arithmetic w (Quotients w) (div w)
 unfolding div
-div-rule w = arithmetic w _ (λ a b p q. quotients w a b)
+div-rule w = arithmetic w _ (λ a b p q. quotients p q)
 
 -- ---- rem: by the greatest magnitude in the divisor; it has every remainder, and is refused by 2 for MIN and -1 alone
 pub rem-rule : (w : Width) → Arithmetic w (Remainders w) (rem w)

@@ -20,6 +20,8 @@ use Rattle.interval.proofs.Test.{in-test, only-test}
 use Rattle.interval.proofs.Rem.{proper, signs, one-fits, rem-proper}
 use Rattle.interval.proofs.Canonical.{bottom-test, canonical-is, is-canonical, in-width}
 use Rattle.interval.proofs.First.{strict-full}
+use Rattle.interval.proofs.Ranges.{ranged-exact}
+use Rattle.interval.proofs.Quotients.{quot-least, unbounded-test}
 use Rattle.interval.proofs.Fill.{filled-canonical}
 use Rattle.interval.proofs.Claims.{neg-exact, add-exact, sub-exact, mul-exact, div-rule, rem-rule, equals-exact, less-exact, greater-exact, less-or-equal-exact, greater-or-equal-exact}
 
@@ -64,7 +66,12 @@ module _ {w : Width} {a b : Interval} (c : Canonical w a) (d : Canonical w b) wh
 
   pub div-canonical : Well w (div w a b)
   unfolding div
-  div-canonical = beside-well (div-rule w) c d (λ p q. rw (strict-full p q) (branch (only-test b (pos 0)) (λ v. Well w (is v)) (λ _. shown none) (λ _. shown (some (proper (omega (ints, signs w)) (omega ints) (omega ints))))))
+  div-canonical =
+      beside-well (div-rule w) c d λ p q.
+      rw (strict-full p q)
+      (branch (only-test b (pos 0)) (Well w) (λ _. shown none) λ _.
+      branch (unbounded-test p q) (Well w) (λ _. shown (some (proper (omega (ints, signs w)) (omega ints) (omega ints)))) λ u.
+      well (ranged-exact p q _ _ (quot-least (p .ordered) (q .ordered) (u .0))))
 
   pub rem-canonical : Well w (rem w a b)
   unfolding rem

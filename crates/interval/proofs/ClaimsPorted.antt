@@ -23,9 +23,9 @@ use Rattle.whole.proofs.Decides.{branch, both, either, le-test, eq-test, fits-t
 use Rattle.whole.proofs.Decides as W
 use Rattle.refusal.specs.Answer.{Answer, is}
 use Rattle.interval.specs.Set.{Interval, _⋯_, _∈_, bottom, single, isBottom, Proper, Canonical, some, none}
-use Rattle.interval.specs.Results.{Least, Covers, Covering, covering, refusing}
+use Rattle.interval.specs.Results.{Least, LeastAnswer, least-is, Covers, Covering, covering, refusing}
 use Rattle.interval.specs.Promise.{Several, MinByMinusOne}
-use Rattle.interval.specs.PortedPromise.{Fitting, RemRefused, Inner, LeastAnswer, least-is, CornersFit}
+use Rattle.interval.specs.PortedPromise.{Fitting, RemRefused, Inner, CornersFit}
 use Rattle.interval.specs.Mended.{remSingle}
 use Rattle.interval.specs.Ported.{addMin, addMax, add, neg, addTo, sub, mul, weakCmp, sameOne, singleton, remBy, remLarge, rem}
 use Rattle.interval.proofs.Calls.{made}

@@ -8,8 +8,8 @@ pub mod Rem
 pub mod Remainder
 pub mod Canonical
 pub mod First
-pub mod Quotients
 pub mod Remainders
+pub mod Quotients
 pub mod Narrow
 pub mod Fill
 pub mod Clamp

@@ -3,7 +3,7 @@ use mathlib.Core.Path.{_≡_, refl, ap, _∙_}
 use mathlib.Core.Logic.{_⊎_, inl, inr}
 use mathlib.Core.Bool.{Bool, true, false, _&&_}
 use lib.IntN.{ℤ, negℤ, _+ℤ_, _-ℤ_, _*ℤ_}
-use lib.Signed.{_≤ℤ_}
+use lib.Signed.{_≤ℤ_, quotZ}
 use mir.Syntax.{Width, w64}
 use mir.Val.{SFits}
 use Rattle.whole.specs.Choice.{pick}
@@ -21,12 +21,14 @@ use Rattle.whole.proofs.Decides.{Beyond, both, branch, is-false, fits-test, sam
 use Rattle.whole.proofs.Sizes.{wider}
 use Rattle.whole.proofs.Calls.{called-1, called}
 use Rattle.interval.specs.declared.IntervalAnswer.{IntervalAnswer}
-use Rattle.interval.specs.Set.{Interval, _⋯_, _∈_, top}
+use Rattle.interval.specs.Set.{Interval, _⋯_, _∈_, top, Proper}
 use Rattle.refusal.specs.Answer.{is, refused}
 use Rattle.interval.specs.Answer.{told}
 use Rattle.interval.specs.Ends.{rangeOf, leastOf, greatestOf, heldRange}
 use Rattle.interval.specs.Mended.{ranged, strict, lowCorner, highCorner}
-use Rattle.interval.proofs.Ends.{min-is, max-is}
+use Rattle.interval.specs.Results.{Least}
+use Rattle.interval.specs.Promise as E
+use Rattle.interval.proofs.Ends.{low-in, min-is, max-is}
 use Rattle.interval.proofs.Test.{in-test}
 
 -- ---- a call of an exact operation
@@ -69,7 +71,7 @@ pub ruleset cornered = (least-called, greatest-called, range-called)
 
 module _ (a b c d : ℤ) where
   -- each of four lies from the least to the greatest
-  spread : ((min4 a b c d ≤ℤ a) × (min4 a b c d ≤ℤ b) × (min4 a b c d ≤ℤ c) × (min4 a b c d ≤ℤ d)) × ((a ≤ℤ max4 a b c d) × (b ≤ℤ max4 a b c d) × (c ≤ℤ max4 a b c d) × (d ≤ℤ max4 a b c d))
+  pub spread : ((min4 a b c d ≤ℤ a) × (min4 a b c d ≤ℤ b) × (min4 a b c d ≤ℤ c) × (min4 a b c d ≤ℤ d)) × ((a ≤ℤ max4 a b c d) × (b ≤ℤ max4 a b c d) × (c ≤ℤ max4 a b c d) × (d ≤ℤ max4 a b c d))
   spread =
       let l = L.least a b in
       let m = L.least c d in
@@ -80,7 +82,7 @@ module _ (a b c d : ℤ) where
       ((omega ints, omega ints, omega ints, omega ints), (omega ints, omega ints, omega ints, omega ints))
 
   module _ (w : Width) where
-    four-fit : (SFits w a × SFits w b) × (SFits w c × SFits w d) → SFits w (min4 a b c d) × SFits w (max4 a b c d)
+    pub four-fit : (SFits w a × SFits w b) × (SFits w c × SFits w d) → SFits w (min4 a b c d) × SFits w (max4 a b c d)
     four-fit h = (min-is (SFits w) _ _ (min-is (SFits w) a b (h .0 .0) (h .0 .1)) (min-is (SFits w) c d (h .1 .0) (h .1 .1)), max-is (SFits w) _ _ (max-is (SFits w) a b (h .0 .0) (h .0 .1)) (max-is (SFits w) c d (h .1 .0) (h .1 .1)))
 
     one-beyond : (x : ℤ) → min4 a b c d ≤ℤ x → x ≤ℤ max4 a b c d → Beyond w x → SFits w (min4 a b c d) × SFits w (max4 a b c d) → ⊥
@@ -127,8 +129,25 @@ held-range z lo hi = branch (both (in-test lo (top w64)) (in-test hi (top w64)))
 pub range-exact : (z : Size) (lo hi m n : ℤ) (e f : Exact) (r : IntervalAnswer) → told r ≡ rangeOf e f → e ≡ exactly (widthOf z) m → f ≡ exactly (widthOf z) n → m ≡ lo → n ≡ hi → told r ≡ ranged (widthOf z) lo hi
 range-exact z lo hi m n e f r h p q u v = rw (p, q, u, v) at h ∙ range-is (widthOf z) lo hi
 
-pub corners-made : (z : Size) (a b : Interval) (e f g h : Exact) (s t r : IntervalAnswer) → told r ≡ strict (widthOf z) a b (told t) → told t ≡ heldRange (widthOf z) (told s) → told s ≡ rangeOf (leastOf (leastOf e f) (leastOf g h)) (greatestOf (greatestOf e f) (greatestOf g h)) → e ≡ exactly w64 (a .min *ℤ b .min) → f ≡ exactly w64 (a .min *ℤ b .max) → g ≡ exactly w64 (a .max *ℤ b .min) → h ≡ exactly w64 (a .max *ℤ b .max) → told r ≡ strict (widthOf z) a b (ranged (widthOf z) (lowCorner a b) (highCorner a b))
-corners-made z a b e f g h s t r m l k p q u v =
-    let n : told s ≡ ranged w64 (lowCorner a b) (highCorner a b) = rw (p, q, u, v) at k ∙ corners-are (a .min *ℤ b .min) (a .min *ℤ b .max) (a .max *ℤ b .min) (a .max *ℤ b .max) w64 in
-    let o : told t ≡ ranged (widthOf z) (lowCorner a b) (highCorner a b) = l ∙ (ap (heldRange (widthOf z)) n ∙ held-range z (lowCorner a b) (highCorner a b)) in
-    rw o at m
+-- the four corners of f, worked out at 64 bits and held to a size
+pub corners-held : (f : ℤ → ℤ → ℤ) (z : Size) (a b : Interval) (e g h i : Exact) (s t : IntervalAnswer) → told t ≡ heldRange (widthOf z) (told s) → told s ≡ rangeOf (leastOf (leastOf e g) (leastOf h i)) (greatestOf (greatestOf e g) (greatestOf h i)) → e ≡ exactly w64 (f (a .min) (b .min)) → g ≡ exactly w64 (f (a .min) (b .max)) → h ≡ exactly w64 (f (a .max) (b .min)) → i ≡ exactly w64 (f (a .max) (b .max)) → told t ≡ ranged (widthOf z) (lowCorner f a b) (highCorner f a b)
+corners-held f z a b e g h i s t l k p q u v =
+    let n : told s ≡ ranged w64 (lowCorner f a b) (highCorner f a b) = rw (p, q, u, v) at k ∙ corners-are (f (a .min) (b .min)) (f (a .min) (b .max)) (f (a .max) (b .min)) (f (a .max) (b .max)) w64 in
+    l ∙ (ap (heldRange (widthOf z)) n ∙ held-range z (lowCorner f a b) (highCorner f a b))
+
+pub quotients-held : (z : Size) (a b : Interval) (e g h i : Exact) (s t : IntervalAnswer) → told t ≡ heldRange (widthOf z) (told s) → told s ≡ rangeOf (leastOf (leastOf e g) (leastOf h i)) (greatestOf (greatestOf e g) (greatestOf h i)) → e ≡ exactly w64 (quotZ (a .min) (b .min)) → g ≡ exactly w64 (quotZ (a .min) (b .max)) → h ≡ exactly w64 (quotZ (a .max) (b .min)) → i ≡ exactly w64 (quotZ (a .max) (b .max)) → told t ≡ ranged (widthOf z) (lowCorner quotZ a b) (highCorner quotZ a b)
+quotients-held = corners-held quotZ
+
+pub products-made : (z : Size) (a b : Interval) (e g h i : Exact) (s t r : IntervalAnswer) → told r ≡ strict (widthOf z) a b (told t) → told t ≡ heldRange (widthOf z) (told s) → told s ≡ rangeOf (leastOf (leastOf e g) (leastOf h i)) (greatestOf (greatestOf e g) (greatestOf h i)) → e ≡ exactly w64 (a .min *ℤ b .min) → g ≡ exactly w64 (a .min *ℤ b .max) → h ≡ exactly w64 (a .max *ℤ b .min) → i ≡ exactly w64 (a .max *ℤ b .max) → told r ≡ strict (widthOf z) a b (ranged (widthOf z) (lowCorner _*ℤ_ a b) (highCorner _*ℤ_ a b))
+products-made z a b e g h i s t r m l k p q u v = rw (corners-held _*ℤ_ z a b e g h i s t l k p q u v) at m
+
+pub quot-called : (a m b n : ℤ) (r : Exact) → r ≡ exactly w64 (quotZ m n) → m ≡ a → n ≡ b → r ≡ exactly w64 (quotZ a b)
+quot-called = called (λ x y. exactly w64 (quotZ x y))
+
+-- ---- the range between the ends of a least range is exact
+pub ranged-exact : {w : Width} {a b : Interval} → Proper w a → Proper w b → {f : ℤ → ℤ → ℤ} (lo hi : ℤ) → Least f a b (lo ⋯ hi) → E.Exact w f a b (ranged w lo hi)
+ranged-exact {w} {a} {b} p q {f} lo hi l = branch (both (in-test lo (top w)) (in-test hi (top w))) (E.Exact w f a b) (λ h. E.fitting l (record { ordered = ordered; above = h .0 .low; below = h .1 .high })) (λ h. E.too-wide (lo ⋯ hi) l h)
+  where
+    -- it has a number: the result at the low ends
+    ordered : lo ≤ℤ hi
+    ordered = let c = l .covers (a .min) (b .min) (low-in (p .ordered)) (low-in (q .ordered)) in omega ints

@@ -55,6 +55,9 @@ module _ {b : Interval} (o : b .min ≤ℤ b .max) where
 pub min-by-minus-one : (w : Width) → quotZ (least w) (negsuc 0) ∉ top w
 min-by-minus-one w = inr (omega (lin, pow-pos (hbits w)))
 
+pub not-these : (w : Width) {a b : Interval} → MinByMinusOne w a b → quotZ (a .min) (b .min) ∈ top w → ⊥
+not-these w m = rw (m .0, m .1) (contrary (min-by-minus-one w))
+
 module _ {w : Width} {x y : ℤ} (f : SFits w x) where
   pub quotient-fits : (x ≢ least w) ⊎ (y ≢ negsuc 0) → SFits w (quotZ x y)
   quotient-fits (inl n) = fits-quot-above w x y f (omega (ints, low w x f, from-≢ n))
@@ -77,9 +80,6 @@ same-reason g h (refusing m) = refusing (g m)
 
 -- ---- of two single numbers
 module _ {w : Width} {a b : Interval} (f : SFits w (a .min)) (d : a .min ≡ a .max) (e : b .min ≡ b .max) where
-  fitting-not : MinByMinusOne w a b → quotZ (a .min) (b .min) ∈ top w → ⊥
-  fitting-not m = rw (m .0, m .1) (contrary (min-by-minus-one w))
-
   beyond : (a .min ≢ least w) ⊎ (b .min ≢ negsuc 0) → quotZ (a .min) (b .min) ∉ top w → ⊥
   beyond s n = let g = quotient-fits f s in contrary n (record { low = low w _ g; high = high w _ g })
 
@@ -91,7 +91,7 @@ module _ {w : Width} {a b : Interval} (f : SFits w (a .min)) (d : a .min ≡ a .
   pub alone-covers : Covering remZ (λ x y. y ≢ pos 0) (MinByMinusOne w a b) a b (remSingle w (a .min) (b .min))
   alone-covers =
       branch (in-test _ (top w)) (Covering remZ (λ x y. y ≢ pos 0) (MinByMinusOne w a b) a b)
-      (λ h. covering (λ m. fitting-not m h) (λ x y u v nz. rw (only d u, only e v) (record { low = omega ints; high = omega ints })))
+      (λ h. covering (λ m. not-these w m h) (λ x y u v nz. rw (only d u, only e v) (record { low = omega ints; high = omega ints })))
       (λ n. refusing (these-two (eq-test (a .min) (least w)) (eq-test (b .min) (negsuc 0)) n))
 
 module _ {w : Width} {a b : Interval} (p : Proper w a) (q : Proper w b) where

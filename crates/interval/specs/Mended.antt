@@ -1,6 +1,6 @@
 -- The mended operations of document 01, by its set rules, over the width.
 use mathlib.Core.Bool.{Bool, _&&_, _||_}
-use lib.IntN.{ℤ, pos, negℤ, _+ℤ_, _-ℤ_, _*ℤ_}
+use lib.IntN.{ℤ, pos, negsuc, negℤ, _+ℤ_, _-ℤ_, _*ℤ_}
 use lib.Signed.{quotZ, remZ}
 use mir.Syntax.{Width}
 use Rattle.whole.specs.Choice.{pick}
@@ -27,18 +27,29 @@ add w a b = strict w a b (ranged w (a .min +ℤ b .min) (a .max +ℤ b .max))
 unfoldable pub sub : Width → Interval → Interval → Answer Interval
 sub w a b = strict w a b (ranged w (a .min -ℤ b .max) (a .max -ℤ b .min))
 
--- the least and the greatest of the four products of ends
-abbrev pub lowCorner : Interval → Interval → ℤ
-lowCorner a b = min4 (a .min *ℤ b .min) (a .min *ℤ b .max) (a .max *ℤ b .min) (a .max *ℤ b .max)
+-- the least and the greatest of the four results at the ends
+abbrev pub lowCorner : (ℤ → ℤ → ℤ) → Interval → Interval → ℤ
+lowCorner f a b = min4 (f (a .min) (b .min)) (f (a .min) (b .max)) (f (a .max) (b .min)) (f (a .max) (b .max))
 
-abbrev pub highCorner : Interval → Interval → ℤ
-highCorner a b = max4 (a .min *ℤ b .min) (a .min *ℤ b .max) (a .max *ℤ b .min) (a .max *ℤ b .max)
+abbrev pub highCorner : (ℤ → ℤ → ℤ) → Interval → Interval → ℤ
+highCorner f a b = max4 (f (a .min) (b .min)) (f (a .min) (b .max)) (f (a .max) (b .min)) (f (a .max) (b .max))
 
 unfoldable pub mul : Width → Interval → Interval → Answer Interval
-mul w a b = strict w a b (ranged w (lowCorner a b) (highCorner a b))
+mul w a b = strict w a b (ranged w (lowCorner _*ℤ_ a b) (highCorner _*ℤ_ a b))
+
+-- the divisor's range holds 0, or MIN / -1 can occur
+unfoldable pub unbounded? : Width → Interval → Interval → Bool
+unbounded? w a b = (pos 0 ∈? b) || ((least w ∈? a) && (negsuc 0 ∈? b))
+
+-- the quotients toward zero: none by [0, 0], every number where they have no bounds, else those between the corners
+abbrev pub quotientsOf : Width → Interval → Interval → Answer Interval
+quotientsOf w a b =
+    pick (isOnly b (pos 0)) (is (bottom w))
+    (pick (unbounded? w a b) (is (top w))
+    (ranged w (lowCorner quotZ a b) (highCorner quotZ a b)))
 
 unfoldable pub div : Width → Interval → Interval → Answer Interval
-div w a b = strict w a b (is (pick (isOnly b (pos 0)) (bottom w) (top w)))
+div w a b = strict w a b (quotientsOf w a b)
 
 -- the greatest magnitude in b
 abbrev pub magnitude : Interval → ℤ

@@ -13,7 +13,6 @@ use Rattle.sign.specs.declared.Sign.{Sign}
 use Rattle.sign.specs.Set.{Side, sideOf, _has_}
 use Rattle.interval.specs.declared.Pair.{Pair}
 use Rattle.interval.specs.Set.{Interval, _∈_, _⊆_, bottom, single}
-use Rattle.interval.specs.Results.{Least}
 use Rattle.interval.specs.Promise.{Several, MinByMinusOne}
 
 -- ---- the lattice
@@ -67,9 +66,6 @@ RemRefused a b = MinByMinusOne w64 a b ⊎ ((a ≢ bottom w64) × Several a b ×
 pub record Inner (i : Interval) : Type 0 where
   pub low-end : (i .min ≢ least w64) × (i .min ≢ greatest w64)
   pub high-end : (i .max ≢ least w64) × (i .max ≢ greatest w64)
-
-pub data LeastAnswer (f : ℤ → ℤ → ℤ) (a b : Interval) : Answer Interval → Type 0 where
-  least-is : {v : Interval} → Least f a b v → LeastAnswer f a b (is v)
 
 -- all four corner products fit
 pub record CornersFit (a b : Interval) : Type 0 where

@@ -8,7 +8,7 @@ use mir.Val.{SFits}
 use Rattle.whole.specs.Range.{least, greatest}
 use Rattle.refusal.specs.Answer.{Answer, is, refused}
 use Rattle.interval.specs.Set.{Interval, _⋯_, _∈_, _∉_, _⊆_, top, bottom, single, Proper, Canonical}
-use Rattle.interval.specs.Results.{Least, Covering}
+use Rattle.interval.specs.Results.{Least, LeastAnswer, Covering}
 
 -- an operation on two intervals
 abbrev pub Operation : Type 0
@@ -47,10 +47,11 @@ pub record Beyond (w : Width) (f : ℤ → ℤ → ℤ) (a b : Interval) : Type 
   pub right-in : right ∈ b
   pub beyond : f left right ∉ top w
 
--- ---- div
+-- ---- div: the least range of all quotients, where the divisor's range excludes 0 and MIN / -1 can't occur
 pub record Quotients (w : Width) (a b : Interval) (r : Answer Interval) : Type 0 where
   pub by-zero : b ≡ single (pos 0) → r ≡ is (bottom w)
-  pub by-others : b ≢ single (pos 0) → r ≡ is (top w)
+  pub unbounded : b ≢ single (pos 0) → (pos 0 ∈ b) ⊎ ((least w ∈ a) × (negsuc 0 ∈ b)) → r ≡ is (top w)
+  pub bounded : pos 0 ∉ b → (least w ∉ a) ⊎ (negsuc 0 ∉ b) → LeastAnswer quotZ a b r
   pub covers : Covering quotZ (λ x y. (y ≢ pos 0) × SFits w (quotZ x y)) ⊥ a b r
 
 -- ---- rem

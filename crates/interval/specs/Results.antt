@@ -18,6 +18,9 @@ pub record Least (f : ℤ → ℤ → ℤ) (a b v : Interval) : Type 0 where
   pub low-is : Result f a b (v .min)
   pub high-is : Result f a b (v .max)
 
+pub data LeastAnswer (f : ℤ → ℤ → ℤ) (a b : Interval) : Answer Interval → Type 0 where
+  least-is : {v : Interval} → Least f a b v → LeastAnswer f a b (is v)
+
 -- v has those that count
 abbrev pub Covers : (ℤ → ℤ → ℤ) → (ℤ → ℤ → Type 0) → Interval → Interval → Interval → Type 0
 Covers f Counts a b v = (x y : ℤ) → x ∈ a → y ∈ b → Counts x y → f x y ∈ v

@@ -14,7 +14,7 @@ ghost use Rattle.whole.specs.Choice.{pick};
 ghost use Rattle.whole.specs.Test.{_≟_};
 ghost use Rattle.whole.specs.Range.{least, greatest};
 ghost use Rattle.whole.specs.Sized.{widthOf};
-ghost use Rattle.interval.specs.Set.{_⋯_, single, isOnly, isBottom, empty?};
+ghost use Rattle.interval.specs.Set.{_⋯_, _∈?_, single, isOnly, isBottom, empty?};
 ghost use Rattle.interval.specs.Answer.{told};
 ghost use Rattle.interval.specs.Mended.{filled, narrowed, remSingle, verdict};
 ghost use Rattle.interval.specs.Ends.{greatestOf};
@@ -124,6 +124,13 @@ impl Interval {
         ensures { λ r. ⌜ r ≡ isOnly self n ⌝ }
     {
         self.min == n && self.max == n
+    }
+
+    // Whether n is one of its numbers.
+    pub fn holds(self, n: i64) -> bool
+        ensures { λ r. ⌜ r ≡ (n ∈? self) ⌝ }
+    {
+        if self.min <= n { n <= self.max } else { false }
     }
 
     // Bottom for a pair that stands for nothing.

@@ -36,7 +36,7 @@ pub fn mul(a: Interval, b: Interval) -> IntervalAnswer
     sized::mul(Size::B64, a, b)
 }
 
-// Every number, or none by [0, 0].
+// The least range of all quotients toward zero; every number where the divisor's range holds 0 or MIN / -1 can occur, none by [0, 0].
 pub fn div(a: Interval, b: Interval) -> IntervalAnswer
     ensures { λ r. ⌜ told r ≡ mended.div w64 a b ⌝ }
 {

@@ -14,13 +14,14 @@ use refusal::Refusal;
 use whole::Exact;
 use whole::Size;
 use whole::exact_mul;
+use whole::exact_quotient;
 use whole::max_of;
 use whole::min_of;
 use whole::saturating_add;
 ghost use mathlib.Core.Path.{_≡_};
 ghost use mathlib.Core.Bool.{true, false, _&&_, _||_};
 ghost use lib.IntN.{pos, negℤ, _-ℤ_};
-ghost use Rattle.whole.specs.Choice.{pick};
+ghost use lib.Signed.{quotZ};
 ghost use Rattle.whole.specs.Whole.{maxℤ};
 ghost use Rattle.whole.specs.Test.{_≤?_, _<?_, _≟_};
 ghost use Rattle.whole.specs.Sized.{widthOf};
@@ -218,21 +219,49 @@ pub fn mul(size: Size, a: Interval, b: Interval) -> IntervalAnswer
     strict(size, a, b, held(size, corners))
 }
 
-fn quotients(size: Size, b: Interval) -> Interval
-    ensures { λ r. ⌜ r ≡ pick (isOnly b (pos 0)) (bottom (widthOf size)) (top (widthOf size)) ⌝ }
+// Whether the divisor's range holds 0, or MIN / -1 can occur.
+fn unbounded(size: Size, a: Interval, b: Interval) -> bool
+    ensures { λ r. ⌜ r ≡ mended.unbounded? (widthOf size) a b ⌝ }
 {
-    if b.is_only(0) {
-        bottom(size)
-    } else {
-        top(size)
+    if b.holds(0) {
+        return true;
     }
+    if a.holds(size.least()) {
+        return b.holds(-1);
+    }
+    false
 }
 
-// Every number, or none by [0, 0].
+// The range of the four quotients of ends.
+fn corner_quotients(size: Size, a: Interval, b: Interval) -> IntervalAnswer
+    ensures { λ r. ⌜ told r ≡ mended.ranged (widthOf size) (mended.lowCorner quotZ a b) (mended.highCorner quotZ a b) ⌝ }
+{
+    let corners = corner_range(
+        exact_quotient(a.min, b.min),
+        exact_quotient(a.min, b.max),
+        exact_quotient(a.max, b.min),
+        exact_quotient(a.max, b.max),
+    );
+    held(size, corners)
+}
+
+fn quotients(size: Size, a: Interval, b: Interval) -> IntervalAnswer
+    ensures { λ r. ⌜ told r ≡ mended.quotientsOf (widthOf size) a b ⌝ }
+{
+    if b.is_only(0) {
+        return IntervalAnswer::Is(bottom(size));
+    }
+    if unbounded(size, a, b) {
+        return IntervalAnswer::Is(top(size));
+    }
+    corner_quotients(size, a, b)
+}
+
+// The least range of all quotients toward zero; every number where the divisor's range holds 0 or MIN / -1 can occur, none by [0, 0].
 pub fn div(size: Size, a: Interval, b: Interval) -> IntervalAnswer
     ensures { λ r. ⌜ told r ≡ mended.div (widthOf size) a b ⌝ }
 {
-    strict(size, a, b, IntervalAnswer::Is(quotients(size, b)))
+    strict(size, a, b, quotients(size, a, b))
 }
 
 // M - 1, for M the greatest magnitude from low to high. It fits also where M is 2^63.

@@ -18,12 +18,11 @@ use Rattle.interval.specs.declared.Interval.{Interval}
 use Rattle.interval.specs.Set.{_⋯_, _∈_, _∉_, top, single, Proper, some}
 use Rattle.interval.specs.Mended as M
 use Rattle.interval.specs.Mended.{join}
-use Rattle.interval.specs.Promise.{MinByMinusOne}
-use Rattle.interval.proofs.Test.{only-test, other, contrary}
+use Rattle.interval.proofs.Test.{only-test, other}
 use Rattle.interval.proofs.Ends.{low-in}
 use Rattle.interval.proofs.Truth.{and-told, or-told, not-told}
 use Rattle.interval.proofs.Rem.{proper}
-use Rattle.interval.proofs.Remainders.{min-by-minus-one}
+use Rattle.interval.proofs.Remainders.{not-these}
 use Rattle.interval.proofs.Claims.{add-exact, sub-exact, mul-exact, div-rule, rem-rule, equals-exact, less-exact, greater-exact, less-or-equal-exact, greater-or-equal-exact, join-left, join-right, join-proper}
 use Rattle.interval.proofs.ClaimsCanonical.{div-canonical, rem-canonical}
 use Rattle.step.specs.declared.Operator.{Operator}
@@ -50,10 +49,7 @@ module _ {w : Width} {i j k : Interval} (p : Proper w i) (q : Proper w j) (r : P
       in-fits {n} h = fits w n (h .low) (h .high)
 
   remainder-shows : pos 0 ∉ j → ((x y : ℤ) → x ∈ i → y ∈ j → quotZ x y ∈ top w) → Shows p q r remZ (M.rem w i j)
-  remainder-shows nz c = shows-all p q r (rem-rule w .full p q .covers) (rem-canonical (some p) (some q)) (λ m. not-these m (c (i .min) (j .min) (low-in (p .ordered)) (low-in (q .ordered)))) (λ x y s t. other t nz)
-    where
-      not-these : MinByMinusOne w i j → quotZ (i .min) (j .min) ∈ top w → ⊥
-      not-these m = rw (m .0, m .1) (contrary (min-by-minus-one w))
+  remainder-shows nz c = shows-all p q r (rem-rule w .full p q .covers) (rem-canonical (some p) (some q)) (λ m. not-these w m (c (i .min) (j .min) (low-in (p .ordered)) (low-in (q .ordered)))) (λ x y s t. other t nz)
 
   chosen : (x y z : ℤ) → x ∈ i → y ∈ j → z ∈ k → pick (x ≟ pos 1) y z ∈ chosenBy i j k (join j k)
   chosen x y z s t u =

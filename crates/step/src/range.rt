@@ -7,7 +7,6 @@ use whole::Size;
 ghost use mathlib.Core.Path.{_≡_};
 ghost use Rattle.whole.specs.Sized.{widthOf};
 ghost use Rattle.interval.specs.Answer.{told};
-ghost use Rattle.interval.specs.Set.{_∈?_};
 ghost use Rattle.interval.specs.Mended.{join};
 ghost use Rattle.step.specs.Range.{fittingAll, dividedAll, logicalAll, chosenBy, rangeOp};
 ghost use Rattle.step.specs.Told.{rangeTold};
@@ -28,22 +27,15 @@ fn fitting(a: IntervalAnswer) -> RangeAnswer
     }
 }
 
-// Whether the range holds n.
-fn holds(i: Interval, n: i64) -> bool
-    ensures { λ r. ⌜ r ≡ (n ∈? i) ⌝ }
-{
-    if i.min <= n { n <= i.max } else { false }
-}
-
 // 12 where the divisor's range holds 0, 13 where MIN and -1 can meet.
 fn divided(size: Size, i: Interval, j: Interval, a: RangeAnswer) -> RangeAnswer
     ensures { λ r. ⌜ rangeTold r ≡ dividedAll (widthOf size) i j (rangeTold a) ⌝ }
 {
-    if holds(j, 0) {
+    if j.holds(0) {
         return RangeAnswer::Declines(Refusal::DivisorZero);
     }
-    if holds(i, size.least()) {
-        if holds(j, -1) {
+    if i.holds(size.least()) {
+        if j.holds(-1) {
             return RangeAnswer::Declines(Refusal::ResultTooWide);
         }
     }

@@ -13,7 +13,7 @@ bottom-requires c κs = search needs
 
 returns : tie.Need-returns
 unfolding narrowed
-returns c = search (made, end-called, asked, flags) depth 8 fits 5000
+returns c = search (asked, flags) depth 8 fits 5000
 
 is-bottom-requires-2 : tie.Need-is-bottom-requires-2
 is-bottom-requires-2 c κs = search needs
@@ -23,7 +23,7 @@ bottom-requires-2 c κs = search needs
 
 returns-2 : tie.Need-returns-2
 unfolding narrowed
-returns-2 c = search (made, end-called, asked, flags) depth 8 fits 5000
+returns-2 c = search (asked, flags) depth 8 fits 5000
 
 least-requires : tie.Need-least-requires
 least-requires c κs = search needs

@@ -11,7 +11,7 @@ one-bottom-requires c κs = search needs
 
 returns : tie.Need-returns
 unfolding add
-returns c = search (made, ends, asked, flags) depth 8 fits 5000
+returns c = search (ends, asked, flags) depth 8 fits 5000
 
 add-min-requires : tie.Need-add-min-requires
 add-min-requires c κs = search needs

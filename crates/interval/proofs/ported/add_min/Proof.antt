@@ -11,11 +11,11 @@ saturating-add-requires c κs = search needs
 
 returns : tie.Need-returns
 unfolding addMin
-returns c = search (sum-called, asked, flags) depth 8 fits 5000
+returns c = search (asked, flags) depth 8 fits 5000
 
 returns-2 : tie.Need-returns-2
 unfolding addMin
-returns-2 c = search (sum-called, asked, flags) depth 8 fits 5000
+returns-2 c = search (asked, flags) depth 8 fits 5000
 
 returns-3 : tie.Need-returns-3
 unfolding addMin

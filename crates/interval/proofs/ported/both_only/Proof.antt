@@ -14,7 +14,7 @@ returns : tie.Need-returns
 returns c = search (only-flag, only-called, ands) depth 8 fits 5000
 
 returns-2 : tie.Need-returns-2
-returns-2 c = search (only-flag, only-called, ands) depth 8 fits 5000
+returns-2 c = search (only-flag, ands) depth 8 fits 5000
 
 pub both-only-spec : {M : Type 1} → statement M
 both-only-spec = tie.close (tie.spec is-only-requires is-only-requires-2 returns returns-2)

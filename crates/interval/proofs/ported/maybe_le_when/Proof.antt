@@ -11,7 +11,7 @@ apart-requires c κs = search needs
 
 returns : tie.Need-returns
 unfolding maybeLeWhen
-returns c = search (pair-made, asked, flags) depth 8 fits 5000
+returns c = search (asked, flags) depth 8 fits 5000
 
 le-left-requires : tie.Need-le-left-requires
 le-left-requires c κs = search needs

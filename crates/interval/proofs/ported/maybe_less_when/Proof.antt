@@ -11,15 +11,15 @@ apart-requires c κs = search needs
 
 returns : tie.Need-returns
 unfolding maybeLessWhen
-returns c = search (pair-made, asked, flags) depth 8 fits 5000
+returns c = search (asked, flags) depth 8 fits 5000
 
 returns-2 : tie.Need-returns-2
 unfolding maybeLessWhen
-returns-2 c = search (pair-made, asked, flags) depth 8 fits 5000
+returns-2 c = search (asked, flags) depth 8 fits 5000
 
 returns-3 : tie.Need-returns-3
 unfolding maybeLessWhen
-returns-3 c = search (pair-made, asked, flags) depth 8 fits 5000
+returns-3 c = search (asked, flags) depth 8 fits 5000
 
 less-left-requires : tie.Need-less-left-requires
 less-left-requires c κs = search (asked, flags) depth 8 fits 5000

@@ -11,7 +11,7 @@ one-bottom-requires c κs = search needs
 
 returns : tie.Need-returns
 unfolding mul
-returns c = search (spread-called, product-called, asked, flags) depth 8 fits 5000
+returns c = search (asked, flags) depth 8 fits 5000
 
 saturating-mul-requires : tie.Need-saturating-mul-requires
 saturating-mul-requires c κs = search needs

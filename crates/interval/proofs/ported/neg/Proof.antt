@@ -11,11 +11,11 @@ is-bottom-requires c κs = search needs
 
 returns : tie.Need-returns
 unfolding neg
-returns c = search (is-made, made, ends, asked, flags) depth 8 fits 5000
+returns c = search (ends, asked, flags) depth 8 fits 5000
 
 returns-2 : tie.Need-returns-2
 unfolding neg
-returns-2 c = search (is-made, made, ends, asked, flags) depth 8 fits 5000
+returns-2 c = search (ends, asked, flags) depth 8 fits 5000
 
 neg-max-requires : tie.Need-neg-max-requires
 neg-max-requires c κs = search (asked, flags)

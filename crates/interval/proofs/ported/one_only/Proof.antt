@@ -11,7 +11,7 @@ is-only-requires-2 : tie.Need-is-only-requires-2
 is-only-requires-2 c κs = search needs
 
 returns : tie.Need-returns
-returns c = search (only-flag, only-called, ors) depth 8 fits 5000
+returns c = search (only-flag, ors) depth 8 fits 5000
 
 returns-2 : tie.Need-returns-2
 returns-2 c = search (only-flag, only-called, ors) depth 8 fits 5000

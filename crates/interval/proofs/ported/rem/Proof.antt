@@ -12,7 +12,7 @@ rem-nothing-requires c κs = search needs
 
 returns : tie.Need-returns
 unfolding rem
-returns c = search (single-called B64, asked, flags) depth 8 fits 5000
+returns c = search (asked, flags) depth 8 fits 5000
 
 both-single-requires : tie.Need-both-single-requires
 both-single-requires c κs = search needs
@@ -29,7 +29,7 @@ rem-large-requires c κs = search needs
 
 returns-3 : tie.Need-returns-3
 unfolding rem
-returns-3 c = search (single-called B64, asked, flags) depth 8 fits 5000
+returns-3 c = search (asked, flags) depth 8 fits 5000
 
 pub rem-spec : {M : Type 1} → statement M
 rem-spec =

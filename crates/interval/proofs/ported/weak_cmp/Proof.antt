@@ -11,15 +11,15 @@ one-bottom-requires c κs = search needs
 
 returns : tie.Need-returns
 unfolding weakCmp
-returns c = search (same-called, asked, flags) depth 8 fits 5000
+returns c = search (asked, flags) depth 8 fits 5000
 
 returns-2 : tie.Need-returns-2
 unfolding weakCmp
-returns-2 c = search (same-called, asked, flags) depth 8 fits 5000
+returns-2 c = search (asked, flags) depth 8 fits 5000
 
 returns-3 : tie.Need-returns-3
 unfolding weakCmp
-returns-3 c = search (same-called, asked, flags) depth 8 fits 5000
+returns-3 c = search (asked, flags) depth 8 fits 5000
 
 singleton-requires : tie.Need-singleton-requires
 singleton-requires c κs = search needs

@@ -11,7 +11,7 @@ is-bottom-requires c κs = search needs
 
 returns : tie.Need-returns
 unfolding widen
-returns c = search (made, ends, asked, flags) depth 8 fits 5000
+returns c = search (ends, asked, flags) depth 8 fits 5000
 
 widen-min-requires : tie.Need-widen-min-requires
 widen-min-requires c κs = search needs

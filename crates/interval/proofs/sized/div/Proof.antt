@@ -1,6 +1,6 @@
 use borrow.Author.Needs.{needs}
 use Rattle.interval.specs.Mended.{div}
-use Rattle.interval.proofs.Calls.{strict-is}
+use Rattle.interval.proofs.Remainder.{strict-called}
 use Rattle.interval.proofs.sized.div.Statement.{statement}
 use Rattle.interval.proofs.sized.div.Tie as tie
 
@@ -12,7 +12,7 @@ strict-requires c κs = search needs
 
 returns : tie.Need-returns
 unfolding div
-returns c = search strict-is
+returns c = search strict-called
 
 pub div-spec : {M : Type 1} → statement M
 div-spec = tie.close (tie.spec quotients-requires strict-requires returns)

@@ -1,7 +1,7 @@
 use borrow.Author.Needs.{needs}
 use Rattle.whole.proofs.Flags.{flags}
-use Rattle.whole.proofs.Sizes.{fits-told}
-use Rattle.interval.proofs.Calls.{and-is, and-is-no, fits-called}
+use Rattle.whole.proofs.Sizes.{both-is, fits-told}
+use Rattle.interval.proofs.Calls.{and-is-no, fits-called}
 use Rattle.interval.proofs.sized.in_width.Statement.{statement}
 use Rattle.interval.proofs.sized.in_width.Tie as tie
 
@@ -12,7 +12,7 @@ fits-requires-2 : tie.Need-fits-requires-2
 fits-requires-2 c κs = search needs
 
 returns : tie.Need-returns
-returns c = search (and-is, fits-told, fits-called, flags)
+returns c = search (both-is, fits-told, fits-called, flags)
 
 returns-2 : tie.Need-returns-2
 returns-2 c = search (and-is-no, fits-told, flags)

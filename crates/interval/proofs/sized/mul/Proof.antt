@@ -2,7 +2,7 @@ use borrow.Author.Needs.{needs}
 use Rattle.whole.specs.declared.Size.the-variants.{B64}
 use Rattle.whole.proofs.Flags.{flags}
 use Rattle.interval.specs.Mended.{mul}
-use Rattle.interval.proofs.Ranges.{corners-made, mul-called}
+use Rattle.interval.proofs.Ranges.{products-made, mul-called}
 use Rattle.interval.proofs.sized.mul.Statement.{statement}
 use Rattle.interval.proofs.sized.mul.Tie as tie
 
@@ -29,7 +29,7 @@ strict-requires c κs = search needs
 
 returns : tie.Need-returns
 unfolding mul
-returns c = search (corners-made, mul-called B64, flags) depth 8 fits 5000
+returns c = search (products-made, mul-called B64, flags) depth 8 fits 5000
 
 pub mul-spec : {M : Type 1} → statement M
 mul-spec =

@@ -10,14 +10,14 @@ canonical-requires c κs = search needs
 
 returns : tie.Need-returns
 unfolding narrow
-returns c = search (is-made, filled-called, asked, flags) depth 8 fits 5000
+returns c = search (asked, flags) depth 8 fits 5000
 
 canonical-requires-2 : tie.Need-canonical-requires-2
 canonical-requires-2 c κs = search needs
 
 returns-2 : tie.Need-returns-2
 unfolding narrow
-returns-2 c = search (is-made, filled-called, asked, flags) depth 8 fits 5000
+returns-2 c = search (asked, flags) depth 8 fits 5000
 
 narrowed-requires : tie.Need-narrowed-requires
 narrowed-requires c κs = search needs

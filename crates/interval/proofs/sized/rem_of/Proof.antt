@@ -21,7 +21,7 @@ single-rem-requires : tie.Need-single-rem-requires
 single-rem-requires c κs = search needs
 
 returns-2 : tie.Need-returns-2
-returns-2 c = search (is-made, remains, asked, flags) depth 8 fits 5000
+returns-2 c = search (remains, asked, flags) depth 8 fits 5000
 
 rem-range-requires : tie.Need-rem-range-requires
 rem-range-requires c κs = search needs

@@ -10,7 +10,7 @@ is-only-requires c κs = search needs
 
 returns : tie.Need-returns
 unfolding remWithin
-returns c = search (made, asked, flags) depth 8 fits 5000
+returns c = search (asked, flags) depth 8 fits 5000
 
 returns-2 : tie.Need-returns-2
 unfolding remWithin

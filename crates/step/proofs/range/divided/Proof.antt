@@ -5,7 +5,7 @@ use Rattle.whole.specs.Range.{least}
 use Rattle.whole.specs.Sized.{widthOf}
 use Rattle.whole.proofs.Flags.{flags}
 use Rattle.interval.specs.Set.{_∈?_}
-use Rattle.step.proofs.Calls.{holds-at}
+use Rattle.interval.proofs.Calls.{holds-told}
 use borrow.Author.Needs.{needs}
 use Rattle.step.proofs.range.divided.Statement.{statement}
 use Rattle.step.proofs.range.divided.Tie as tie
@@ -29,7 +29,7 @@ returns-2 : tie.Need-returns-2
 returns-2 c =
     let a = c .before .before .before .before .before .before .before .args in
     let e : (pos 0 ∈? a .j) ≡ false = sym (c .before .before .before .before .before .before .holds .ensures) ∙ c .before .before .before .before .before .if1 .left in
-    let f : (least (widthOf (a .size)) ∈? a .i) ≡ true = search (holds-at, flags) in
+    let f : (least (widthOf (a .size)) ∈? a .i) ≡ true = search (holds-told, flags) in
     let g : (negsuc 0 ∈? a .j) ≡ true = sym (c .before .holds3 .ensures) ∙ c .if3 .taken in
     rw (e, f, g)
 
@@ -37,7 +37,7 @@ returns-3 : tie.Need-returns-3
 returns-3 c =
     let a = c .before .before .before .before .before .before .before .args in
     let e : (pos 0 ∈? a .j) ≡ false = sym (c .before .before .before .before .before .before .holds .ensures) ∙ c .before .before .before .before .before .if1 .left in
-    let f : (least (widthOf (a .size)) ∈? a .i) ≡ true = search (holds-at, flags) in
+    let f : (least (widthOf (a .size)) ∈? a .i) ≡ true = search (holds-told, flags) in
     let g : (negsuc 0 ∈? a .j) ≡ false = sym (c .before .holds3 .ensures) ∙ c .if3 .left in
     rw (e, f, g)
 
@@ -45,7 +45,7 @@ returns-4 : tie.Need-returns-4
 returns-4 c =
     let a = c .before .before .before .before .before .args in
     let e : (pos 0 ∈? a .j) ≡ false = sym (c .before .before .before .before .holds .ensures) ∙ c .before .before .before .if1 .left in
-    let f : (least (widthOf (a .size)) ∈? a .i) ≡ false = search (holds-at, flags) in
+    let f : (least (widthOf (a .size)) ∈? a .i) ≡ false = search (holds-told, flags) in
     rw (e, f)
 
 pub divided-spec : {M : Type 1} → statement M
