@@ -4,8 +4,8 @@ mod printed;
 use files::Contents;
 
 fn print_check(bytes: &[u8]) {
-    let mut out = [0u8; 32768];
-    let made = printed::check(bytes, &mut out, 0);
+    let mut out = [0u8; printed::ROOM];
+    let made = printed::check(bytes, &mut out);
     files::print(&out, made);
 }
 

@@ -2,12 +2,15 @@
 ghost use Prim.Native.Nat.{_*_, _≤_};
 ghost use lib.ListN.{length};
 ghost use Rattle.sheet.specs.Sheet.{parse};
-ghost use Rattle.say.specs.Said.{Says};
+ghost use Rattle.say.specs.Said.{Says, Prints};
 ghost use Rattle.say.specs.Texts.{numbered};
 ghost use Rattle.desk.specs.Five.{shownFirst};
 ghost use Rattle.check_sheet.specs.Text.{shownText, stepLine, checkText};
 use desk::CheckAnswer;
 use step::show::Shown;
+
+// Room for what any check prints: 256 lines of at most 104 bytes, and the last.
+pub const ROOM: usize = 32768;
 
 // Range, spacing and sign.
 fn shown(out: &mut [u8], made: usize, v: Shown) -> usize
@@ -45,7 +48,7 @@ fn lines(out: &mut [u8], made: usize, room: &[i64], n: usize) -> usize
 }
 
 // What the check of the bytes prints: 1,280 numbers are room for any sheet.
-pub fn check(bytes: &[u8], out: &mut [u8], made: usize) -> usize
+fn check_text(bytes: &[u8], out: &mut [u8], made: usize) -> usize
     ensures { λ r. ⌜ Says (checkText (parse (now (bytes .entry)))) (now (out .entry)) made (now (out .exit)) r ⌝ }
 {
     let mut room = [0i64; 1280];
@@ -67,4 +70,11 @@ pub fn check(bytes: &[u8], out: &mut [u8], made: usize) -> usize
         ),
         CheckAnswer::Refused(why) => say::refused(out, made, why),
     }
+}
+
+// Puts what the check of the bytes prints, the whole of it, and answers how many bytes that are.
+pub fn check(bytes: &[u8], out: &mut [u8; ROOM]) -> usize
+    ensures { λ r. ⌜ Prints (checkText (parse (now (bytes .entry)))) (now (out .entry)) (now (out .exit)) r ⌝ }
+{
+    check_text(bytes, out, 0)
 }

@@ -1,2 +1,2 @@
 pub mod Printing
-pub mod Claims
+pub mod Room

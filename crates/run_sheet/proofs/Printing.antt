@@ -30,11 +30,11 @@ pub all-lines : (ns : List ℤ) (k : ℕ) → length ns ≤ k → numbered stepL
 all-lines ns k h = rw (take-all k ns h)
 
 module _ (s : List ℕ) (ins room left : List ℤ) (a : RunAnswer) (t : runTold a ≡ running (runOp w64) s ins room .told) (e : left ≡ sets room 0 (running (runOp w64) s ins room .numbers)) (l : length room ≡ 256) where
-  pub ended-text : (n : ℕ) → a ≡ Ended n → (n ≤ 256) × (runText (parse s) ins ≡ numbered stepLine 0 (take (n - 0) left) ++ countLine (ascii "ended ") n)
-  ended-text n q = let r = ended-run s ins room left a t e l n q in (r .few, rw (r .parsed, r .suited, r .ran, r .count))
+  pub ended-text : (n : ℕ) → a ≡ Ended n → (n ≤ 256) × (length (take (n - 0) left) ≡ n) × (runText (parse s) ins ≡ numbered stepLine 0 (take (n - 0) left) ++ countLine (ascii "ended ") n)
+  ended-text n q = let r = ended-run s ins room left a t e l n q in (r .few, r .count, rw (r .parsed, r .suited, r .ran, r .count))
 
-  pub stopped-text : (why : Refusal) (n : ℕ) → a ≡ StoppedAt why n → (n ≤ 256) × (runText (parse s) ins ≡ numbered stepLine 0 (take (n - 0) left) ++ placeLine (ascii "stopped at step ") n (numberOf why))
-  stopped-text why n q = let r = stopped-run s ins room left a t e l why n q in (r .few, rw (r .parsed, r .suited, r .ran, r .count))
+  pub stopped-text : (why : Refusal) (n : ℕ) → a ≡ StoppedAt why n → (n ≤ 256) × (length (take (n - 0) left) ≡ n) × (runText (parse s) ins ≡ numbered stepLine 0 (take (n - 0) left) ++ placeLine (ascii "stopped at step ") n (numberOf why))
+  stopped-text why n q = let r = stopped-run s ins room left a t e l why n q in (r .few, r .count, rw (r .parsed, r .suited, r .ran, r .count))
 
   pub unread-text : (why : Refusal) (p : ℕ) → a ≡ RefusedAt why p → runText (parse s) ins ≡ placeLine (ascii "refused at byte ") p (numberOf why)
   unread-text why p q = rw (unread-run s ins room left a t e l why p q)

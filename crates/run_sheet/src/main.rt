@@ -78,8 +78,8 @@ fn take_inputs(from: usize, count: usize, inputs: &mut [i64]) -> usize
 }
 
 fn print_run(bytes: &[u8], inputs: &[i64]) {
-    let mut out = [0u8; 8192];
-    let made = printed::run(bytes, inputs, &mut out, 0);
+    let mut out = [0u8; printed::ROOM];
+    let made = printed::run(bytes, inputs, &mut out);
     files::print(&out, made);
 }
 

@@ -4,11 +4,7 @@ use mathlib.Core.Path.{_≡_, refl, sym, ap, _∙_}
 use mathlib.Core.List.{List, [], _∷_, _++_}
 use native.Mathlib.Omega.{arith}
 use lib.ListN.{length, length-append}
-use Rattle.say.specs.Said.{joined}
-
-abbrev pub size : List (List ℕ) → ℕ
-size [] = 0
-size (t ∷ ts) = length t + size ts
+use Rattle.say.specs.Said.{joined, size}
 
 pub size-append : (ts us : List (List ℕ)) → size (ts ++ us) ≡ size ts + size us
 size-append [] us = omega arith

@@ -2,6 +2,7 @@ use mir.Syntax.{w64}
 use mir.ValLaws.{toZ-ofZ}
 use Rattle.say.proofs.Saying.{_and-then_}
 use borrow.Author.Needs.{needs}
+use Rattle.run_sheet.proofs.Room.{line-size}
 use Rattle.run_sheet.proofs.printed.line.Statement.{statement}
 use Rattle.run_sheet.proofs.printed.line.Tie as tie
 
@@ -28,11 +29,13 @@ same-length c = search needs
 
 returns : tie.Need-returns
 returns c =
-    let s = c .before .before .before .before .before .before .before .before .before .before .before .before .before .before .before .before .before .before .before in
-    (c .before .before .before .before .before .before .before .before .before .before .before .before .before .before .before .before .natural .ensures)
-    and-then (c .before .before .before .before .before .before .before .before .before .before .before .word .ensures)
-    and-then (rw (toZ-ofZ w64 (s .args .n) (s .fits .n)) at (c .before .before .before .before .before .before .before .number .ensures))
-    and-then (c .before .before .word2 .ensures)
+    let s = c .before .before .before .before .before .before .before .before .before .before .before .before .before .before .before .before .before .before .before in (
+      (c .before .before .before .before .before .before .before .before .before .before .before .before .before .before .before .before .natural .ensures)
+          and-then (c .before .before .before .before .before .before .before .before .before .before .before .word .ensures)
+          and-then (rw (toZ-ofZ w64 (s .args .n) (s .fits .n)) at (c .before .before .before .before .before .before .before .number .ensures))
+          and-then (c .before .before .word2 .ensures),
+      λ h. line-size _ _ h (s .fits .n),
+    )
 
 pub line-spec : {M : Type 1} → statement M
 line-spec =

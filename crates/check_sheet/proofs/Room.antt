@@ -1,11 +1,10 @@
--- The program's output, of 32,768 bytes, has room for every check, so that nothing is left out.
+-- How many bytes the text of a check takes: at most 32,768.
 use Prim.Native.Nat.{ℕ, zero, suc, _+_, _*_, _^_, _≤_, _<_}
-use mathlib.Core.Path.{_≡_, refl, sym, ap, _∙_}
+use mathlib.Core.Path.{_≡_, refl}
 use mathlib.Core.List.{List, [], _∷_, _++_}
 use native.Mathlib.Omega.{arith}
 use lib.IntN.{ℤ}
 use lib.ListN.{length}
-use lib.Seq.{sets}
 use mir.Syntax.{w64}
 use mir.Val.{SFits}
 use Rattle.whole.proofs.Linear.{ints}
@@ -19,10 +18,9 @@ use Rattle.text.specs.Ascii.{ascii}
 use Rattle.text.specs.Decimal.{digits}
 use Rattle.text.proofs.Width.{tens, digits-below, decimal-below, end-text-below}
 use Rattle.say.specs.Names.{signName}
-use Rattle.say.specs.Said.{joined, Says}
+use Rattle.say.specs.Said.{joined, size}
 use Rattle.say.specs.Texts.{numbered, placeLine}
-use Rattle.say.proofs.Sizes.{size, size-append, joined-size}
-use Rattle.say.proofs.Claims.{says-text}
+use Rattle.say.proofs.Sizes.{size-append, joined-size}
 use Rattle.sheet.specs.Lent.{Bytes}
 use Rattle.sheet.specs.Got.{Got, got, refused}
 use Rattle.sheet.specs.Step.{Step}
@@ -88,13 +86,6 @@ text-size s b l = by-parse (parse s) refl
         let f = digits-below 1 r (omega (arith, w .0)) in
         omega (arith, d, f)
 
--- the text of a check takes at most 32,768 bytes
+-- the text of a check of lent bytes takes at most 32,768
 pub check-has-room : (s : List ℕ) → Bytes s → length s < 2 ^ 64 → length (joined (checkText (parse s))) ≤ 32768
 check-has-room s b l = rw (joined-size (checkText (parse s))) (text-size s b l)
-
--- so the output holds it whole, and ends where it ends
-pub check-whole : (s : List ℕ) → Bytes s → length s < 2 ^ 64 → (out left : List ℕ) (end : ℕ) → 32768 ≤ length out → Says (checkText (parse s)) out 0 left end
-    → (left ≡ sets out 0 (joined (checkText (parse s)))) × (end ≡ length (joined (checkText (parse s))))
-check-whole s b l out left end r h =
-    let t = says-text (checkText (parse s)) out 0 left end h (omega (arith, check-has-room s b l)) in
-    (t .0, t .1 ∙ omega arith)
