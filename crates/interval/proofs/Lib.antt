@@ -1,4 +1,5 @@
 pub mod Calls
+pub mod Full
 pub mod Test
 pub mod Ends
 pub mod PortedCalls

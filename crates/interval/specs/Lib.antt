@@ -2,6 +2,7 @@ pub mod Set
 pub mod Answer
 pub mod Ends
 pub mod Mended
+pub mod Full
 pub mod Ported
 pub mod Results
 pub mod Promise

@@ -27,6 +27,7 @@ ghost use Rattle.whole.specs.Test.{_≤?_, _<?_, _≟_};
 ghost use Rattle.whole.specs.Sized.{widthOf};
 ghost use Rattle.interval.specs.Set.{top, bottom, isOnly, isBottom, empty?, inWidth?, canonical?};
 ghost use Rattle.interval.specs.Answer.{told};
+ghost use Rattle.interval.specs.Full.{full?, unmade};
 ghost use Rattle.interval.specs.Ends.{rangeOf, leastOf, greatestOf, heldRange};
 ghost use Rattle.interval.specs.Mended as mended;
 
@@ -83,9 +84,20 @@ fn canonical(size: Size, a: Interval) -> bool
     }
 }
 
-// The answer to an arithmetic operation: `made`, if both are canonical and neither is bottom.
-fn strict(size: Size, a: Interval, b: Interval, made: IntervalAnswer) -> IntervalAnswer
-    ensures { λ r. ⌜ told r ≡ mended.strict (widthOf size) a b (told made) ⌝ }
+// Canonical, and not bottom.
+fn is_full(size: Size, a: Interval) -> bool
+    ensures { λ r. ⌜ r ≡ full? (widthOf size) a ⌝ }
+{
+    if is_empty(a) {
+        false
+    } else {
+        in_width(size, a)
+    }
+}
+
+// What is answered where one of the two is not full: bottom, or 1 where one is not canonical.
+fn unmade(size: Size, a: Interval, b: Interval) -> IntervalAnswer
+    ensures { λ r. ⌜ told r ≡ unmade (widthOf size) a b ⌝ }
 {
     if !canonical(size, a) {
         return IntervalAnswer::Refused(Refusal::NotInDomain);
@@ -93,11 +105,18 @@ fn strict(size: Size, a: Interval, b: Interval, made: IntervalAnswer) -> Interva
     if !canonical(size, b) {
         return IntervalAnswer::Refused(Refusal::NotInDomain);
     }
-    if is_empty(a) {
-        return IntervalAnswer::Is(bottom(size));
+    IntervalAnswer::Is(bottom(size))
+}
+
+// The answer to an arithmetic operation: `made`, if both are canonical and neither is bottom. The rare answers stand apart, so that this is short.
+fn strict(size: Size, a: Interval, b: Interval, made: IntervalAnswer) -> IntervalAnswer
+    ensures { λ r. ⌜ told r ≡ mended.strict (widthOf size) a b (told made) ⌝ }
+{
+    if !is_full(size, a) {
+        return unmade(size, a, b);
     }
-    if is_empty(b) {
-        return IntervalAnswer::Is(bottom(size));
+    if !is_full(size, b) {
+        return unmade(size, a, b);
     }
     made
 }
@@ -201,7 +220,10 @@ fn held(size: Size, r: IntervalAnswer) -> IntervalAnswer
     ensures { λ t. ⌜ told t ≡ heldRange (widthOf size) (told r) ⌝ }
 {
     match r {
-        IntervalAnswer::Is(v) => range_in(size, v),
+        IntervalAnswer::Is(v) => match size {
+            Size::B64 => IntervalAnswer::Is(v),
+            _ => range_in(size, v),
+        },
         IntervalAnswer::Refused(q) => IntervalAnswer::Refused(q),
     }
 }

@@ -1,54 +1,39 @@
 use borrow.Author.Needs.{needs}
-use Rattle.whole.proofs.Flags.{flags}
-use Rattle.interval.proofs.Calls.{asked, is-made}
+use mathlib.Core.Path.{_∙_}
+use Rattle.whole.proofs.Flags.{was-false, was-true}
+use Rattle.interval.proofs.Full.{is-made-of, not-left, not-right}
 use Rattle.interval.proofs.sized.strict.Statement.{statement}
 use Rattle.interval.proofs.sized.strict.Tie as tie
 
-canonical-requires : tie.Need-canonical-requires
-canonical-requires c κs = search needs
+is-full-requires : tie.Need-is-full-requires
+is-full-requires c κs = search needs
+
+unmade-requires : tie.Need-unmade-requires
+unmade-requires c κs = search needs
 
 returns : tie.Need-returns
-returns c = search (asked, flags) depth 8 fits 5000
+returns c = (c .unmade .ensures) ∙ not-left _ _ _ _ (was-false (c .before .before .is-full .ensures) (c .before .if1 .taken))
 
-canonical-requires-2 : tie.Need-canonical-requires-2
-canonical-requires-2 c κs = search needs
+is-full-requires-2 : tie.Need-is-full-requires-2
+is-full-requires-2 c κs = search needs
+
+unmade-requires-2 : tie.Need-unmade-requires-2
+unmade-requires-2 c κs = search needs
 
 returns-2 : tie.Need-returns-2
-returns-2 c = search (asked, flags) depth 8 fits 5000
-
-is-empty-requires : tie.Need-is-empty-requires
-is-empty-requires c κs = search needs
-
-bottom-requires : tie.Need-bottom-requires
-bottom-requires c κs = search needs
+returns-2 c = (c .unmade2 .ensures) ∙ not-right _ _ _ _ (was-false (c .before .before .is-full2 .ensures) (c .before .if2 .taken))
 
 returns-3 : tie.Need-returns-3
-returns-3 c = search (is-made, asked, flags) depth 8 fits 5000
-
-is-empty-requires-2 : tie.Need-is-empty-requires-2
-is-empty-requires-2 c κs = search needs
-
-bottom-requires-2 : tie.Need-bottom-requires-2
-bottom-requires-2 c κs = search needs
-
-returns-4 : tie.Need-returns-4
-returns-4 c = search (is-made, asked, flags) depth 8 fits 5000
-
-returns-5 : tie.Need-returns-5
-returns-5 c = search (asked, flags) depth 8 fits 5000
+returns-3 c = is-made-of _ _ _ _ (was-true (c .before .before .before .is-full .ensures) (c .before .before .if1 .left)) (was-true (c .before .is-full2 .ensures) (c .if2 .left))
 
 pub strict-spec : {M : Type 1} → statement M
 strict-spec =
     tie.close
     (tie.spec
-    canonical-requires
+    is-full-requires
+    unmade-requires
     returns
-    canonical-requires-2
+    is-full-requires-2
+    unmade-requires-2
     returns-2
-    is-empty-requires
-    bottom-requires
-    returns-3
-    is-empty-requires-2
-    bottom-requires-2
-    returns-4
-    returns-5)
+    returns-3)
