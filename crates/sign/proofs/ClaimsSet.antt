@@ -1,16 +1,20 @@
--- What each sign stands for: the numbers that its name says; the eight signs are the eight subsets of the three sides.
+-- What each sign stands for: the numbers that its name says; the eight signs are the eight subsets of the three sides, and three bits.
 -- Assumes nothing.
 use mathlib.Core.Path.{_≡_, refl, _∙_}
 use mathlib.Core.Logic.{_↔_}
 use mathlib.Core.Bool.{Bool, true, false}
-use Prim.Native.Nat.{zero, suc}
+use Prim.Native.Nat.{ℕ, zero, suc, _+_, _<_}
+use lib.Dec.{eqb, eqb→eq}
 use lib.IntN.{ℤ, pos, negsuc}
+use Rattle.whole.specs.Choice.{pick}
 use Rattle.whole.proofs.Linear.{ints}
 use Rattle.sign.specs.declared.Sign.{Sign}
 use Rattle.sign.specs.declared.Sign.the-variants.{Top, Bottom, Negative, Zero, Positive, NonNeg, NonZero, NonPos}
 use Rattle.sign.specs.Set.{Side, negative, nought, positive, sideOf, _has_, _∈_, top, bottom, Subset}
 use Rattle.sign.specs.Sides.{those}
+use Rattle.sign.specs.Bits.{bitsOf, ofBits}
 use Rattle.sign.specs.Numbers.{StandsFor}
+use Rattle.sign.proofs.Cells.{passes}
 use Rattle.sign.proofs.Laws.{was, those-has}
 
 -- ---- by the order of the whole numbers
@@ -67,3 +71,28 @@ eight-subsets f = record {
   sides = those-has f;
   only = λ s h. by-sides s ∙ rw (h negative, h nought, h positive) refl;
 }
+
+-- ---- three bits a sign: a bit is set just for a side that it has, and the two functions undo each other
+
+pub bits-by-sides : (s : Sign) → bitsOf s ≡ pick (s has negative) 4 0 + pick (s has nought) 2 0 + pick (s has positive) 1 0
+bits-by-sides Top = refl
+bits-by-sides Bottom = refl
+bits-by-sides Negative = refl
+bits-by-sides Zero = refl
+bits-by-sides Positive = refl
+bits-by-sides NonNeg = refl
+bits-by-sides NonZero = refl
+bits-by-sides NonPos = refl
+
+pub sign-back : (s : Sign) → ofBits (bitsOf s) ≡ s
+sign-back Top = refl
+sign-back Bottom = refl
+sign-back Negative = refl
+sign-back Zero = refl
+sign-back Positive = refl
+sign-back NonNeg = refl
+sign-back NonZero = refl
+sign-back NonPos = refl
+
+pub bits-back : (n : ℕ) → n < 8 → bitsOf (ofBits n) ≡ n
+bits-back n h = eqb→eq (bitsOf (ofBits n)) n (passes (λ k. eqb (bitsOf (ofBits k)) k) 8 n h tt)

@@ -1,5 +1,6 @@
 pub mod Cells
 pub mod Keys
+pub mod ByBits
 pub mod Laws
 pub mod ClaimsSet
 pub mod Differences

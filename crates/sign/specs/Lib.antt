@@ -2,6 +2,7 @@ pub mod Set
 pub mod Index
 pub mod Numbers
 pub mod Sides
+pub mod Bits
 pub mod Compared
 pub mod Answer
 pub mod Ported

@@ -4,6 +4,7 @@ ghost use Rattle.sign.specs.Index.{indexOf};
 ghost use Rattle.sign.specs.Set as sets;
 ghost use Rattle.sign.specs.Ported as ports;
 
+mod bits;
 pub mod mended;
 pub mod ported;
 mod tables;

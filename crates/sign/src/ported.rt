@@ -6,41 +6,47 @@ ghost use Rattle.sign.specs.Answer.{said};
 ghost use Rattle.sign.specs.Ported as ports;
 use crate::Sign;
 use crate::SignAnswer;
+use crate::bits::bits_of;
+use crate::bits::of_bits;
 use crate::index_of;
 use crate::tables::ADDITION;
-use crate::tables::COMPARISON;
-use crate::tables::JOIN;
-use crate::tables::MEET;
 use crate::tables::MULTIPLICATION;
 use crate::tables::STRICT_CONCRETE_COMPARISON;
 use crate::tables::WEAK_CONCRETE_COMPARISON;
 use refusal::Refusal;
 use whole::Order;
 
-// ---- the lattice
+// ---- the lattice: the bits of either sign, of both; the order by which bits are common
 
 pub fn join(a: Sign, b: Sign) -> Sign
     ensures { λ r. ⌜ r ≡ ports.join a b ⌝ }
 {
-    let i = index_of(a);
-    let j = index_of(b);
-    JOIN[i][j]
+    of_bits(bits_of(a) | bits_of(b))
 }
 
 pub fn meet(a: Sign, b: Sign) -> Sign
     ensures { λ r. ⌜ r ≡ ports.meet a b ⌝ }
 {
-    let i = index_of(a);
-    let j = index_of(b);
-    MEET[i][j]
+    of_bits(bits_of(a) & bits_of(b))
 }
 
 pub fn partial_cmp(a: Sign, b: Sign) -> Order
     ensures { λ r. ⌜ r ≡ ports.partialCmp a b ⌝ }
 {
-    let i = index_of(a);
-    let j = index_of(b);
-    COMPARISON[i][j]
+    let i = bits_of(a);
+    let j = bits_of(b);
+    let common = i & j;
+    if common == i {
+        if common == j {
+            Order::Equal
+        } else {
+            Order::Less
+        }
+    } else if common == j {
+        Order::Greater
+    } else {
+        Order::None
+    }
 }
 
 // The default of every lattice: the new value.

@@ -1,4 +1,4 @@
-// The seven tables of the Rust: a row for the left sign, a column for the right one, both in the order of index_of.
+// Four of the Rust's tables: a row for the left sign, a column for the right one, both in the order of index_of.
 // Bot, Neg, Pos and Same, More are short for Bottom, Negative, Positive and Equal, Greater, so that a row is a line.
 use crate::Sign;
 use crate::Sign::Bottom as Bot;
@@ -14,32 +14,6 @@ use whole::Order::Equal as Same;
 use whole::Order::Greater as More;
 use whole::Order::Less;
 use whole::Order::None;
-
-// The sides of either sign.
-pub const JOIN: [[Sign; 8]; 8] = [
-    // left/right   Top, Bot, Neg, Zero, Pos, NonNeg, NonZero, NonPos
-    [/* Top      */ Top, Top, Top, Top, Top, Top, Top, Top],
-    [/* Bottom   */ Top, Bot, Neg, Zero, Pos, NonNeg, NonZero, NonPos],
-    [/* Negative */ Top, Neg, Neg, NonPos, NonZero, Top, NonZero, NonPos],
-    [/* Zero     */ Top, Zero, NonPos, Zero, NonNeg, NonNeg, Top, NonPos],
-    [/* Positive */ Top, Pos, NonZero, NonNeg, Pos, NonNeg, NonZero, Top],
-    [/* NonNeg   */ Top, NonNeg, Top, NonNeg, NonNeg, NonNeg, Top, Top],
-    [/* NonZero  */ Top, NonZero, NonZero, Top, NonZero, Top, NonZero, Top],
-    [/* NonPos   */ Top, NonPos, NonPos, NonPos, Top, Top, Top, NonPos],
-];
-
-// The sides of both.
-pub const MEET: [[Sign; 8]; 8] = [
-    // left/right   Top, Bot, Neg, Zero, Pos, NonNeg, NonZero, NonPos
-    [/* Top      */ Top, Bot, Neg, Zero, Pos, NonNeg, NonZero, NonPos],
-    [/* Bottom   */ Bot, Bot, Bot, Bot, Bot, Bot, Bot, Bot],
-    [/* Negative */ Neg, Bot, Neg, Bot, Bot, Bot, Neg, Neg],
-    [/* Zero     */ Zero, Bot, Bot, Zero, Bot, Zero, Bot, Zero],
-    [/* Positive */ Pos, Bot, Bot, Bot, Pos, Pos, Pos, Bot],
-    [/* NonNeg   */ NonNeg, Bot, Bot, Zero, Pos, NonNeg, Pos, Zero],
-    [/* NonZero  */ NonZero, Bot, Neg, Bot, Pos, Pos, NonZero, Neg],
-    [/* NonPos   */ NonPos, Bot, Neg, Zero, Bot, Zero, Neg, NonPos],
-];
 
 // The sides that sums reach.
 pub const ADDITION: [[Sign; 8]; 8] = [
@@ -65,19 +39,6 @@ pub const MULTIPLICATION: [[Sign; 8]; 8] = [
     [/* NonNeg   */ Top, Bot, NonPos, Zero, NonNeg, NonNeg, Top, NonPos],
     [/* NonZero  */ Top, Bot, NonZero, Zero, NonZero, Top, NonZero, Top],
     [/* NonPos   */ Top, Bot, NonNeg, Zero, NonPos, NonPos, Top, NonNeg],
-];
-
-// The order by inclusion.
-pub const COMPARISON: [[Order; 8]; 8] = [
-    // left/right   Top,  Bot,  Neg,  Zero, Pos,  NonN, NonZ, NonP
-    [/* Top      */ Same, More, More, More, More, More, More, More],
-    [/* Bottom   */ Less, Same, Less, Less, Less, Less, Less, Less],
-    [/* Negative */ Less, More, Same, None, None, None, Less, Less],
-    [/* Zero     */ Less, More, None, Same, None, Less, None, Less],
-    [/* Positive */ Less, More, None, None, Same, Less, Less, None],
-    [/* NonNeg   */ Less, More, None, More, More, Same, None, None],
-    [/* NonZero  */ Less, More, More, None, More, None, Same, None],
-    [/* NonPos   */ Less, More, More, More, None, None, None, Same],
 ];
 
 // How each number of the left compares with each one of the right, if all alike.

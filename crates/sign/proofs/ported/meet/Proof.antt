@@ -1,41 +1,25 @@
--- `sign::ported::meet` reads its table: the rule is one test of the 64 cells.
+-- `sign::ported::meet` meets its contract: the intersection of the bits.
 -- Assumes nothing.
-use native.Mathlib.Omega.{arith}
+use mathlib.Core.Path.{_∙_}
 use borrow.Author.Needs.{needs}
-use Rattle.sign.specs.declared.Sign.the-variants.{Top}
-use Rattle.sign.specs.Ported.{meet}
-use Rattle.sign.proofs.Cells.{signs, below, reads}
-use Rattle.sign.proofs.index_of.Reads as index-of-reads
+use Rattle.sign.proofs.ByBits.{of-both}
 use Rattle.sign.proofs.ported.meet.Statement.{statement}
 use Rattle.sign.proofs.ported.meet.Tie as tie
-use Rattle.sign.proofs.ported.meet.Reads as own-reads
-use Rattle.sign.proofs.ported.meet.Lts as lts
 
-index-of-requires : tie.Need-index-of-requires
-index-of-requires c κs = search needs
+bits-of-requires : tie.Need-bits-of-requires
+bits-of-requires c κs = search needs
 
-index-of-requires-2 : tie.Need-index-of-requires-2
-index-of-requires-2 c κs = search needs
+bits-of-requires-2 : tie.Need-bits-of-requires-2
+bits-of-requires-2 c κs = search needs
 
-mul-result : tie.Need-mul-result
-mul-result c = omega (arith, c .before .index-of .ensures, below (c .before .before .args .a))
+of-bits-requires : tie.Need-of-bits-requires
+of-bits-requires c κs = search needs
 
-index-1-result : tie.Need-index-1-result
-index-1-result c = omega (arith, c .before .index-of .ensures, below (c .before .before .args .a))
-
-index-2-result : tie.Need-index-2-result
-index-2-result c = omega (arith, c .index-of2 .ensures, below (c .before .before .args .b))
-
--- the sixth of the locals is the table
 returns : tie.Need-returns
-unfolding meet
 returns c =
     let d = c .before in
-    let locals =
-    lts.m165 (index-of-reads.Asked, index-of-reads.Learnt) own-reads.Pre own-reads.Post (d .before)
-    (lts.After-index-of2·gave (index-of-reads.Asked, index-of-reads.Learnt) own-reads.Pre own-reads.Post d) in
-    reads signs (locals .1 .1 .1 .1 .1 .0) Top meet tt (d .before .index-of .result) (d .index-of2 .result)
-    (d .before .before .args .a) (d .before .before .args .b) (d .before .index-of .ensures) (d .index-of2 .ensures)
+    let x = d .before in
+    c .of-bits .ensures ∙ of-both (x .before .args .a) (x .before .args .b) (x .bits-of .result) (d .bits-of2 .result) (x .bits-of .ensures) (d .bits-of2 .ensures)
 
 pub meet-spec : {M : Type 1} → statement M
-meet-spec = tie.close (tie.spec index-of-requires index-of-requires-2 mul-result index-1-result index-2-result returns)
+meet-spec = tie.close (tie.spec bits-of-requires bits-of-requires-2 of-bits-requires returns)

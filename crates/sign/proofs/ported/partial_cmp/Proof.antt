@@ -1,41 +1,39 @@
--- `sign::ported::partial_cmp` reads its table: the rule is one test of the 64 cells.
+-- `sign::ported::partial_cmp` meets its contract: its ifs are the definition's, asked of the common bits.
 -- Assumes nothing.
-use native.Mathlib.Omega.{arith}
 use borrow.Author.Needs.{needs}
-use Rattle.whole.specs.declared.Order.the-variants.{Less}
-use Rattle.sign.specs.Ported.{partialCmp}
-use Rattle.sign.proofs.Cells.{orders, below, reads}
-use Rattle.sign.proofs.index_of.Reads as index-of-reads
+use Rattle.sign.proofs.ByBits.{equal-by, less-by, greater-by, none-by}
 use Rattle.sign.proofs.ported.partial_cmp.Statement.{statement}
 use Rattle.sign.proofs.ported.partial_cmp.Tie as tie
-use Rattle.sign.proofs.ported.partial_cmp.Reads as own-reads
-use Rattle.sign.proofs.ported.partial_cmp.Lts as lts
 
-index-of-requires : tie.Need-index-of-requires
-index-of-requires c κs = search needs
+bits-of-requires : tie.Need-bits-of-requires
+bits-of-requires c κs = search needs
 
-index-of-requires-2 : tie.Need-index-of-requires-2
-index-of-requires-2 c κs = search needs
+bits-of-requires-2 : tie.Need-bits-of-requires-2
+bits-of-requires-2 c κs = search needs
 
-mul-result : tie.Need-mul-result
-mul-result c = omega (arith, c .before .index-of .ensures, below (c .before .before .args .a))
-
-index-1-result : tie.Need-index-1-result
-index-1-result c = omega (arith, c .before .index-of .ensures, below (c .before .before .args .a))
-
-index-2-result : tie.Need-index-2-result
-index-2-result c = omega (arith, c .index-of2 .ensures, below (c .before .before .args .b))
-
--- the sixth of the locals is the table
 returns : tie.Need-returns
-unfolding partialCmp
 returns c =
-    let d = c .before in
-    let locals =
-    lts.m165 (index-of-reads.Asked, index-of-reads.Learnt) own-reads.Pre own-reads.Post (d .before)
-    (lts.After-index-of2·gave (index-of-reads.Asked, index-of-reads.Learnt) own-reads.Pre own-reads.Post d) in
-    reads orders (locals .1 .1 .1 .1 .1 .0) Less partialCmp tt (d .before .index-of .result) (d .index-of2 .result)
-    (d .before .before .args .a) (d .before .before .args .b) (d .before .index-of .ensures) (d .index-of2 .ensures)
+    let d = c .before .before in
+    let x = d .before in
+    equal-by (x .before .args .a) (x .before .args .b) (x .bits-of .result) (d .bits-of2 .result) (x .bits-of .ensures) (d .bits-of2 .ensures) (c .before .if1 .taken) (c .if2 .taken)
+
+returns-2 : tie.Need-returns-2
+returns-2 c =
+    let d = c .before .before in
+    let x = d .before in
+    less-by (x .before .args .a) (x .before .args .b) (x .bits-of .result) (d .bits-of2 .result) (x .bits-of .ensures) (d .bits-of2 .ensures) (c .before .if1 .taken) (c .if2 .left)
+
+returns-3 : tie.Need-returns-3
+returns-3 c =
+    let d = c .before .before in
+    let x = d .before in
+    greater-by (x .before .args .a) (x .before .args .b) (x .bits-of .result) (d .bits-of2 .result) (x .bits-of .ensures) (d .bits-of2 .ensures) (c .before .if1 .left) (c .if3 .taken)
+
+returns-4 : tie.Need-returns-4
+returns-4 c =
+    let d = c .before .before in
+    let x = d .before in
+    none-by (x .before .args .a) (x .before .args .b) (x .bits-of .result) (d .bits-of2 .result) (x .bits-of .ensures) (d .bits-of2 .ensures) (c .before .if1 .left) (c .if3 .left)
 
 pub partial-cmp-spec : {M : Type 1} → statement M
-partial-cmp-spec = tie.close (tie.spec index-of-requires index-of-requires-2 mul-result index-1-result index-2-result returns)
+partial-cmp-spec = tie.close (tie.spec bits-of-requires bits-of-requires-2 returns returns-2 returns-3 returns-4)
