@@ -16,14 +16,12 @@ use Rattle.whole.specs.Range.{fits?}
 use Rattle.whole.specs.Divides.{gcd, floorRem}
 use Rattle.whole.specs.Exact.{exactly}
 use Rattle.whole.specs.declared.Exact.{Exact}
+use Rattle.refusal.specs.Answer.{Answer, is}
 use Rattle.whole.specs.declared.Exact.the-variants as exact
 use Rattle.congruence.specs.Numbers.{gcdThen, absThen, alike?, formula}
 use Rattle.congruence.specs.Set.{cong}
 use Rattle.congruence.specs.Ported as ported
 use Rattle.congruence.specs.Mended as mended
-use Rattle.congruence.specs.declared.CongruenceAnswer.{CongruenceAnswer}
-use Rattle.congruence.specs.declared.CongruenceAnswer.the-variants.{Is}
-use Rattle.congruence.specs.declared.TruthAnswer.{TruthAnswer}
 
 -- of one number and of two
 module _ {A : Type 0} where
@@ -93,7 +91,7 @@ abs-then-call u x k r h p = rw p at h
 pub exact-of-call : (u : Width) (n k : ℕ) (r : Exact) → r ≡ exactly u (pos k) → k ≡ n → r ≡ exactly u (pos n)
 exact-of-call u n k r h p = rw p at h
 
-pub held-call : (x y : ℤ) (r : CongruenceAnswer) → r ≡ ported.held (toZ w64 (ofZ w64 x)) (toZ w64 (ofZ w64 y)) → SFits w64 x → SFits w64 y → r ≡ ported.held x y
+pub held-call : (x y : ℤ) (r : Answer Congruence) → r ≡ ported.held (toZ w64 (ofZ w64 x)) (toZ w64 (ofZ w64 y)) → SFits w64 x → SFits w64 y → r ≡ ported.held x y
 held-call = handed ported.held
 
 pub normalize-call : (x k y n : ℤ) (v : Congruence) → v ≡ ported.normalize k n → k ≡ x → n ≡ y → v ≡ ported.normalize x y
@@ -127,23 +125,23 @@ module _ (x m y : ℤ) (r : Bool) (h : r ≡ (remZ (toZ w64 (ofZ w64 x)) (toZ w6
   leaves-on e = was-true leaves-is e
 
 -- of whole answers
-pub made-call : (c k m n : Exact) (r : CongruenceAnswer) → r ≡ ported.made k n → k ≡ c → n ≡ m → r ≡ ported.made c m
+pub made-call : (c k m n : Exact) (r : Answer Congruence) → r ≡ ported.made k n → k ≡ c → n ≡ m → r ≡ ported.made c m
 made-call c k m n r h p q = rw (p, q) at h
 
-pub asserted-call : (c k m n : Exact) (r : CongruenceAnswer) → r ≡ ported.asserted k n → k ≡ c → n ≡ m → r ≡ ported.asserted c m
+pub asserted-call : (c k m n : Exact) (r : Answer Congruence) → r ≡ ported.asserted k n → k ≡ c → n ≡ m → r ≡ ported.asserted c m
 asserted-call c k m n r h p q = rw (p, q) at h
 
-pub indivisible-call : (d k g n : Exact) (r : TruthAnswer) → r ≡ ported.indivisible k n → k ≡ d → n ≡ g → r ≡ ported.indivisible d g
+pub indivisible-call : (d k g n : Exact) (r : Answer Bool) → r ≡ ported.indivisible k n → k ≡ d → n ≡ g → r ≡ ported.indivisible d g
 indivisible-call d k g n r h p q = rw (p, q) at h
 
-pub reduced-call : (c k : ℤ) (m n : Exact) (r : CongruenceAnswer) → r ≡ ported.reduced k n → k ≡ c → n ≡ m → r ≡ ported.reduced c m
+pub reduced-call : (c k : ℤ) (m n : Exact) (r : Answer Congruence) → r ≡ ported.reduced k n → k ≡ c → n ≡ m → r ≡ ported.reduced c m
 reduced-call c k m n r h p q = rw (p, q) at h
 
-pub on-truth-call : (s t : TruthAnswer) (x k y n r : CongruenceAnswer) → r ≡ ported.onTruth t k n → t ≡ s → k ≡ x → n ≡ y → r ≡ ported.onTruth s x y
+pub on-truth-call : (s t : Answer Bool) (x k y n r : Answer Congruence) → r ≡ ported.onTruth t k n → t ≡ s → k ≡ x → n ≡ y → r ≡ ported.onTruth s x y
 on-truth-call s t x k y n r h o p q = rw (o, p, q) at h
 
-pub is-value : (v u : Congruence) → v ≡ u → Is v ≡ Is u
-is-value v u p = ap Is p
+pub is-value : (v u : Congruence) → v ≡ u → is v ≡ is u
+is-value v u p = ap is p
 
 -- a call that was handed the numbers of two values
 module _ {A : Type 0} (f : Congruence → Congruence → A) (a b : Congruence) where
@@ -159,7 +157,7 @@ pub below-call : (a b : Congruence) (r : Bool) → r ≡ ported.below? (cong (to
     SFits w64 (a .constant) → SFits w64 (a .modulus) → SFits w64 (b .constant) → SFits w64 (b .modulus) → r ≡ ported.below? a b
 below-call = handed-all ported.below?
 
-pub divided-by-call : (a : Congruence) (k : ℤ) (r : CongruenceAnswer) → r ≡ ported.dividedBy a (toZ w64 (ofZ w64 k)) → SFits w64 k → r ≡ ported.dividedBy a k
+pub divided-by-call : (a : Congruence) (k : ℤ) (r : Answer Congruence) → r ≡ ported.dividedBy a (toZ w64 (ofZ w64 k)) → SFits w64 k → r ≡ ported.dividedBy a k
 divided-by-call a = handed-1 (ported.dividedBy a)
 
 -- of the mended operations' parts

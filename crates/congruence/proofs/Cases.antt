@@ -3,11 +3,9 @@ use mathlib.Core.Path.{_≡_, refl, sym, ap, _∙_}
 use mathlib.Core.Bool.{Bool, true, false, not}
 use lib.IntN.{ℤ, pos, natAbs}
 use native.Mathlib.Nat.{pos-of-ne-zero}
-use native.Mathlib.Omega.{arith}
 use Prim.Native.Nat.{ℕ, _<_}
 use lib.Signed.{remZ, _<ℤ_}
 use borrow.Author.Tests.{ne-eqb}
-use Rattle.whole.specs.Choice.{pick}
 use Rattle.whole.proofs.Linear.{ints}
 use mir.Syntax.{Width}
 use Rattle.whole.proofs.Found.{found-is}
@@ -16,13 +14,8 @@ use Rattle.whole.specs.Divides.{gcd, floorRem}
 use Rattle.whole.specs.Exact.{exactly}
 use Rattle.whole.specs.declared.Exact.{Exact}
 use Rattle.whole.specs.declared.Exact.the-variants as exact
-use Rattle.refusal.specs.declared.Refusal.{Refusal}
-use Rattle.refusal.specs.declared.Refusal.the-variants.{DoesNotFit}
+use Rattle.refusal.specs.Answer.{Answer, is, refused}
 use Rattle.congruence.specs.declared.Congruence.{Congruence}
-use Rattle.congruence.specs.declared.CongruenceAnswer.{CongruenceAnswer}
-use Rattle.congruence.specs.declared.CongruenceAnswer.the-variants.{Is, Refused}
-use Rattle.congruence.specs.declared.TruthAnswer.{TruthAnswer}
-use Rattle.congruence.specs.declared.TruthAnswer.the-variants as truths
 use Rattle.congruence.specs.Set.{cong, top, bottom}
 use Rattle.congruence.specs.Numbers.{gcdThen, absThen}
 use Rattle.congruence.specs.Mended as mended
@@ -52,76 +45,76 @@ abs-some u x a r p h = rw p h
 -- ---- ported
 
 module _ (c m : Exact) where
-  pub made-none : m ≡ exact.DoesNotFit → Refused DoesNotFit ≡ ported.made c m
+  pub made-none : m ≡ exact.DoesNotFit → refused 2 ≡ ported.made c m
   unfolding ported.made
   made-none p = rw p refl
 
-  pub made-none-2 : (n : ℤ) → m ≡ exact.Is n → c ≡ exact.DoesNotFit → Refused DoesNotFit ≡ ported.made c m
+  pub made-none-2 : (n : ℤ) → m ≡ exact.Is n → c ≡ exact.DoesNotFit → refused 2 ≡ ported.made c m
   unfolding ported.made
   made-none-2 n p q = rw (p, q) refl
 
-  pub made-some : (k n : ℤ) (v : Congruence) → c ≡ exact.Is k → m ≡ exact.Is n → v ≡ ported.normalize k n → Is v ≡ ported.made c m
+  pub made-some : (k n : ℤ) (v : Congruence) → c ≡ exact.Is k → m ≡ exact.Is n → v ≡ ported.normalize k n → is v ≡ ported.made c m
   unfolding ported.made
-  made-some k n v p q h = rw (p, q) (ap Is h)
+  made-some k n v p q h = rw (p, q) (ap is h)
 
-  pub held-some : (k n : ℤ) (r : CongruenceAnswer) → c ≡ exact.Is k → m ≡ exact.Is n → r ≡ ported.held k n → r ≡ ported.asserted c m
+  pub held-some : (k n : ℤ) (r : Answer Congruence) → c ≡ exact.Is k → m ≡ exact.Is n → r ≡ ported.held k n → r ≡ ported.asserted c m
   unfolding ported.asserted
   held-some k n r p q h = rw (p, q) h
 
-  pub held-none : c ≡ exact.DoesNotFit → Refused DoesNotFit ≡ ported.asserted c m
+  pub held-none : c ≡ exact.DoesNotFit → refused 2 ≡ ported.asserted c m
   unfolding ported.asserted
   held-none p = rw p refl
 
-  pub held-none-2 : (k : ℤ) → c ≡ exact.Is k → m ≡ exact.DoesNotFit → Refused DoesNotFit ≡ ported.asserted c m
+  pub held-none-2 : (k : ℤ) → c ≡ exact.Is k → m ≡ exact.DoesNotFit → refused 2 ≡ ported.asserted c m
   unfolding ported.asserted
   held-none-2 k p q = rw (p, q) refl
 
 module _ (d g : Exact) where
-  pub indivisible-none : g ≡ exact.DoesNotFit → truths.Refused DoesNotFit ≡ ported.indivisible d g
+  pub indivisible-none : g ≡ exact.DoesNotFit → refused 2 ≡ ported.indivisible d g
   unfolding ported.indivisible
   indivisible-none p = rw p refl
 
-  pub indivisible-none-2 : (n : ℤ) → g ≡ exact.Is n → d ≡ exact.DoesNotFit → truths.Refused DoesNotFit ≡ ported.indivisible d g
+  pub indivisible-none-2 : (n : ℤ) → g ≡ exact.Is n → d ≡ exact.DoesNotFit → refused 2 ≡ ported.indivisible d g
   unfolding ported.indivisible
   indivisible-none-2 n p q = rw (p, q) refl
 
-  pub indivisible-some : (k n : ℤ) (t : Bool) → d ≡ exact.Is k → g ≡ exact.Is n → t ≡ not (remZ k n ≟ pos 0) → truths.Is t ≡ ported.indivisible d g
+  pub indivisible-some : (k n : ℤ) (t : Bool) → d ≡ exact.Is k → g ≡ exact.Is n → t ≡ not (remZ k n ≟ pos 0) → is t ≡ ported.indivisible d g
   unfolding ported.indivisible
-  indivisible-some k n t p q h = rw (p, q) (ap truths.Is h)
+  indivisible-some k n t p q h = rw (p, q) (ap is h)
 
-module _ (t : TruthAnswer) (x y : CongruenceAnswer) where
-  pub on-refused : (r : Refusal) → t ≡ truths.Refused r → Refused r ≡ ported.onTruth t x y
+module _ (t : Answer Bool) (x y : Answer Congruence) where
+  pub on-refused : (n : ℕ) → t ≡ refused n → refused n ≡ ported.onTruth t x y
   unfolding ported.onTruth
-  on-refused r p = rw p refl
+  on-refused n p = rw p refl
 
-  pub on-true : (b : Bool) → t ≡ truths.Is b → b ≡ true → x ≡ ported.onTruth t x y
+  pub on-true : (b : Bool) → t ≡ is b → b ≡ true → x ≡ ported.onTruth t x y
   unfolding ported.onTruth
   on-true b p q = rw (p, q) refl
 
-  pub on-false : (b : Bool) → t ≡ truths.Is b → b ≡ false → y ≡ ported.onTruth t x y
+  pub on-false : (b : Bool) → t ≡ is b → b ≡ false → y ≡ ported.onTruth t x y
   unfolding ported.onTruth
   on-false b p q = rw (p, q) refl
 
-  pub on-false-made : (b : Bool) (r : CongruenceAnswer) → t ≡ truths.Is b → b ≡ false → r ≡ y → r ≡ ported.onTruth t x y
+  pub on-false-made : (b : Bool) (r : Answer Congruence) → t ≡ is b → b ≡ false → r ≡ y → r ≡ ported.onTruth t x y
   unfolding ported.onTruth
   on-false-made b r p q e = rw (p, q) e
 
-pub reduced-none : (c : ℤ) (m : Exact) → m ≡ exact.DoesNotFit → Refused DoesNotFit ≡ ported.reduced c m
+pub reduced-none : (c : ℤ) (m : Exact) → m ≡ exact.DoesNotFit → refused 2 ≡ ported.reduced c m
 unfolding ported.reduced
 reduced-none c m p = rw p refl
 
-pub reduced-some : (c : ℤ) (m : Exact) (n : ℤ) (v : Congruence) → m ≡ exact.Is n → v ≡ ported.normalize (remZ c n) n → Is v ≡ ported.reduced c m
+pub reduced-some : (c : ℤ) (m : Exact) (n : ℤ) (v : Congruence) → m ≡ exact.Is n → v ≡ ported.normalize (remZ c n) n → is v ≡ ported.reduced c m
 unfolding ported.reduced
-reduced-some c m n v p h = rw p (ap Is h)
+reduced-some c m n v p h = rw p (ap is h)
 
-module _ (a b : Congruence) (s : CongruenceAnswer) (h : s ≡ ported.negated b) where
-  pub subtract-some : (v : Congruence) (r : CongruenceAnswer) → s ≡ Is v → r ≡ ported.added a v → r ≡ ported.subtracted a b
+module _ (a b : Congruence) (s : Answer Congruence) (h : s ≡ ported.negated b) where
+  pub subtract-some : (v : Congruence) (r : Answer Congruence) → s ≡ is v → r ≡ ported.added a v → r ≡ ported.subtracted a b
   unfolding ported.subtracted ported.addedTo
   subtract-some v r p q = rw (sym h ∙ p) q
 
-  pub subtract-none : (r : Refusal) → s ≡ Refused r → Refused r ≡ ported.subtracted a b
+  pub subtract-none : (n : ℕ) → s ≡ refused n → refused n ≡ ported.subtracted a b
   unfolding ported.subtracted ported.addedTo
-  subtract-none r p = rw (sym h ∙ p) refl
+  subtract-none n p = rw (sym h ∙ p) refl
 
 -- ---- mended
 
@@ -165,4 +158,4 @@ module _ (u : Width) (z : ℤ) (m : ℕ) (r : Exact) (some : m ≡ 0 → ⊥) (h
       let n : 0 < m = pos-of-ne-zero some in
       omega ints
 
-pub ruleset cases = (gcd-none, gcd-none-2, gcd-some, abs-none, abs-some, made-none, made-none-2, made-some, held-some, held-none, held-none-2, indivisible-none, indivisible-none-2, indivisible-some, on-refused, on-true, on-false, on-false-made, reduced-none, reduced-some, subtract-some, subtract-none)
+pub ruleset cases = (gcd-none, gcd-none-2, gcd-some, abs-none, abs-some, made-none, made-none-2, made-some, held-some, held-none, held-none-2, indivisible-none, indivisible-none-2, indivisible-some, reduced-none, reduced-some)

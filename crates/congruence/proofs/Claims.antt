@@ -1,102 +1,101 @@
--- What document 01 says of congruences: the canonical form; mended lattice, arithmetic and comparisons at any width; the ported operations
--- that cover; errors 5, 6 and 8 with inputs.
-use mathlib.Core.Path.{_≡_, refl, ap, _∙_, subst}
-use mathlib.Core.Bool.{Bool, true, false, not, _&&_, _||_}
-use mathlib.Core.Logic.{_≢_, _↔_, _⊎_, inl, inr}
+-- What document 01 says of congruences: the canonical form, the domain of a width, and each mended operation at any width, for every value of the
+-- domain, canonical or not. What is said of an answer stands in specs/Meaning.antt.
+use mathlib.Core.Path.{_≡_, refl, ap}
+use mathlib.Core.Bool.{Bool, true, false, not, _&&_}
+use mathlib.Core.Logic.{_↔_}
 use Prim.Native.Nat.{ℕ}
 use native.Mathlib.Omega.{arith}
-use lib.IntN.{ℤ, pos, negsuc, negℤ, natAbs, _+ℤ_, _-ℤ_, _*ℤ_}
-use lib.Signed.{quotZ}
+use lib.IntN.{ℤ}
 use mir.Syntax.{Width, w64}
 use mir.Val.{SFits}
-use Rattle.whole.specs.Choice.{pick}
 use Rattle.whole.specs.Test.{_≤?_, _<?_, _≟_, truth}
-use Rattle.whole.specs.Range.{fits?}
-use Rattle.whole.specs.Divides.{steps, gcd, lcm, floorRem}
-use Rattle.whole.specs.Exact.{exactly}
 use Rattle.whole.specs.declared.Order.{Order}
-use Rattle.whole.specs.declared.Order.the-variants.{Less, Equal, Greater, None}
-use Rattle.whole.proofs.Decides.{Decides, holds, fails, both, branch, is-true, is-false, is-fit, yes, no}
+use Rattle.whole.proofs.Decides.{both, branch, is-true, is-false, is-fit, yes, no}
+use Rattle.refusal.specs.Answer.{is}
+use Rattle.refusal.proofs.Claims.{number-tells}
 use Rattle.congruence.specs.declared.Congruence.{Congruence}
 use Rattle.congruence.specs.declared.CongruenceAnswer.{CongruenceAnswer}
-use Rattle.congruence.specs.declared.CongruenceAnswer.the-variants.{Is}
+use Rattle.congruence.specs.declared.CongruenceAnswer.the-variants as value
+use Rattle.congruence.specs.declared.TruthAnswer.{TruthAnswer}
 use Rattle.congruence.specs.declared.TruthAnswer.the-variants as truths
+use Rattle.congruence.specs.declared.OrderAnswer.{OrderAnswer}
 use Rattle.congruence.specs.declared.OrderAnswer.the-variants as orders
-use Rattle.congruence.specs.Set.{cong, top, bottom, bottom?, _∈_, _⊆_, domain?, domainAt?, InDomain, Canonical, form, Proper}
-use Rattle.congruence.specs.Answer.{within, within2, noValue, noTruth, noOrder}
-use Rattle.congruence.specs.Numbers.{formula, gcdThen, absThen, alike?, divides?}
+use Rattle.congruence.specs.declared.SingleAnswer.{SingleAnswer}
+use Rattle.congruence.specs.declared.SingleAnswer.the-variants as singles
+use Rattle.congruence.specs.Set.{bottom, _∈_, _⊆_, domain?, domainAt?, Value, InDomain, Canonical, form, Proper}
+use Rattle.congruence.specs.Answer.{told, truthTold, orderTold, singleTold}
+use Rattle.congruence.specs.Meaning.{Answers, outside, inside, Both, Mends, Disjoint, Ordered, equal, less, greater, unordered, JoinOf, MeetOf, Negation, Sum, Difference, Exactly, ProductOf, CoversProducts, QuotientOf, CoversQuotients, EqualityOf, ComparisonOf, Shows}
 use Rattle.congruence.specs.Mended as mended
-use Rattle.congruence.specs.Ported as ported
-use Rattle.congruence.proofs.Sets.{single-is, form-in, form-out}
+use Rattle.congruence.proofs.Sets.{form-in, form-out, form-proper, domain-at-test}
 use Rattle.congruence.proofs.Sets as sets
-use Rattle.congruence.proofs.Lattice.{Shared, Disjoint}
+use Rattle.congruence.proofs.Forms as forms
 use Rattle.congruence.proofs.Lattice as lattice
-use Rattle.congruence.proofs.Arithmetic.{Sum, Difference, Negation, Fitting}
+use Rattle.congruence.proofs.Arithmetic.{not-both}
 use Rattle.congruence.proofs.Arithmetic as arithmetic
 use Rattle.congruence.proofs.Quotients as quotients
 use Rattle.congruence.proofs.Comparisons as comparisons
-use Rattle.congruence.proofs.Covers as covers
+
+-- ---- two answers that tell the same are the same, so a contract on what is told fixes the answer
+
+pub answer-fixed : (r s : CongruenceAnswer) → told r ≡ told s → r ≡ s
+answer-fixed (value.Is u) (value.Is v) e = cc
+answer-fixed (value.Is u) (value.Refused r) e = let z : _≡_ {A = ℕ} 0 1 = cc in absurd (omega arith)
+answer-fixed (value.Refused q) (value.Is v) e = let z : _≡_ {A = ℕ} 0 1 = cc in absurd (omega arith)
+answer-fixed (value.Refused q) (value.Refused r) e = ap value.Refused (number-tells q r cc)
+
+pub truth-fixed : (r s : TruthAnswer) → truthTold r ≡ truthTold s → r ≡ s
+truth-fixed (truths.Is u) (truths.Is v) e = cc
+truth-fixed (truths.Is u) (truths.Refused r) e = let z : _≡_ {A = ℕ} 0 1 = cc in absurd (omega arith)
+truth-fixed (truths.Refused q) (truths.Is v) e = let z : _≡_ {A = ℕ} 0 1 = cc in absurd (omega arith)
+truth-fixed (truths.Refused q) (truths.Refused r) e = ap truths.Refused (number-tells q r cc)
+
+pub order-fixed : (r s : OrderAnswer) → orderTold r ≡ orderTold s → r ≡ s
+order-fixed (orders.Is u) (orders.Is v) e = cc
+order-fixed (orders.Is u) (orders.Refused r) e = let z : _≡_ {A = ℕ} 0 1 = cc in absurd (omega arith)
+order-fixed (orders.Refused q) (orders.Is v) e = let z : _≡_ {A = ℕ} 0 1 = cc in absurd (omega arith)
+order-fixed (orders.Refused q) (orders.Refused r) e = ap orders.Refused (number-tells q r cc)
+
+pub single-fixed : (r s : SingleAnswer) → singleTold r ≡ singleTold s → r ≡ s
+single-fixed (singles.Is u) (singles.Is v) e = cc
+single-fixed (singles.Is u) singles.None e = let z : _≡_ {A = ℕ} 0 1 = cc in absurd (omega arith)
+single-fixed (singles.Is u) (singles.Refused r) e = let z : _≡_ {A = ℕ} 0 1 = cc in absurd (omega arith)
+single-fixed singles.None (singles.Is v) e = let z : _≡_ {A = ℕ} 0 1 = cc in absurd (omega arith)
+single-fixed singles.None singles.None e = refl
+single-fixed singles.None (singles.Refused r) e = let z : _≡_ {A = ℕ} 0 1 = cc in absurd (omega arith)
+single-fixed (singles.Refused q) (singles.Is v) e = let z : _≡_ {A = ℕ} 0 1 = cc in absurd (omega arith)
+single-fixed (singles.Refused q) singles.None e = let z : _≡_ {A = ℕ} 0 1 = cc in absurd (omega arith)
+single-fixed (singles.Refused q) (singles.Refused r) e = ap singles.Refused (number-tells q r cc)
 
 -- ---- the canonical form
 
 pub canonical-same : (a : Congruence) (x : ℤ) → x ∈ form a ↔ x ∈ a
 canonical-same a x = (form-out a x, form-in a x)
 
-pub canonical-form : (a : Congruence) → domain? a ≡ true → Canonical (form a)
+pub canonical-form : (a : Congruence) → Value a → Canonical (form a)
 canonical-form = sets.form-canonical
 
 -- a canonical value is in the domain and is its own form
-pub canonical-kept : (a : Congruence) → Canonical a → (domain? a ≡ true) × (form a ≡ a)
-canonical-kept a h = (sets.canonical-domain a h, sets.form-is a h)
+pub canonical-kept : (a : Congruence) → Canonical a → Value a × (form a ≡ a)
+canonical-kept a h = (sets.canonical-value a h, sets.form-is a h)
 
 -- two canonical congruences that stand for the same numbers are equal
 pub canonical-unique : (a b : Congruence) → Canonical a → Canonical b → ((x : ℤ) → x ∈ a ↔ x ∈ b) → a ≡ b
 canonical-unique a b p q f = lattice.unique a b p q (λ x. f x .0) (λ x. f x .1)
 
--- the form of a value of the domain whose numbers are of the width is proper
-pub form-proper : (w : Width) (a : Congruence) → domain? a ≡ true → SFits w (a .constant) → SFits w (a .modulus) → Proper w (form a)
-form-proper w a = sets.form-proper a w
+-- ---- the domain, and that of a width
 
--- ---- the domain of a width
+pub domain-is : (a : Congruence) → domain? a ≡ true ↔ Value a
+domain-is a = (yes (sets.value-test a), λ v. is-true (sets.value-test a) (λ f. f v))
 
--- what an operation answers is the refusal just where the test of the domain fails
-refused-just : {A B C N : Type 0} (is : A → B) (refusal : B) → ((v : A) → is v ≡ refusal → ⊥) → {t : Bool} → Decides C N t → (C → N → ⊥) → (v : A) → pick t (is v) refusal ≡ refusal ↔ N
-refused-just is refusal other (holds c) f v = (λ e. absurd (other v e), λ n. absurd (f c n))
-refused-just is refusal other (fails n) f v = (λ e. n, λ e. refl)
-
-not-both : {A B : Type 0} → A × B → (A → ⊥) ⊎ (B → ⊥) → ⊥
-not-both (a, b) (inl f) = f a
-not-both (a, b) (inr f) = f b
-
-module _ (w : Width) (a b : Congruence) where
+module _ (w : Width) (a : Congruence) where
   -- it has just the values of the domain both whose numbers are of the width
   pub domain-of-width : domainAt? w a ≡ true ↔ InDomain w a
-  domain-of-width = (yes (sets.domain-at-test w a), λ d. is-true (sets.domain-at-test w a) (λ f. f d))
+  domain-of-width = (yes (domain-at-test w a), λ d. is-true (domain-at-test w a) (λ f. f d))
 
   pub outside-of-width : domainAt? w a ≡ false ↔ (InDomain w a → ⊥)
-  outside-of-width = (no (sets.domain-at-test w a), λ f. is-false (sets.domain-at-test w a) f)
+  outside-of-width = (no (domain-at-test w a), λ f. is-false (domain-at-test w a) f)
 
-  -- every mended operation is refused by 1 just outside of it: neg; those of two values; disjoint; the order
-  pub one-refused : (f : Congruence → Congruence) → mended.onForm w f a ≡ noValue ↔ (InDomain w a → ⊥)
-  one-refused f = refused-just Is noValue (λ v e. let z : _≡_ {A = ℕ} 0 1 = cc in omega arith) (sets.domain-at-test w a) (λ d g. g d) (f (form a))
-
-  pub two-refused : (f : Congruence → Congruence → Congruence) → mended.onForms w f a b ≡ noValue ↔ ((InDomain w a → ⊥) ⊎ (InDomain w b → ⊥))
-  two-refused f = refused-just Is noValue (λ v e. let z : _≡_ {A = ℕ} 0 1 = cc in omega arith) (both (sets.domain-at-test w a) (sets.domain-at-test w b)) not-both (f (form a) (form b))
-
-  pub disjoint-refused : mended.disjoint w a b ≡ noTruth ↔ ((InDomain w a → ⊥) ⊎ (InDomain w b → ⊥))
-  disjoint-refused = refused-just truths.Is noTruth (λ v e. let z : _≡_ {A = ℕ} 0 1 = cc in omega arith) (both (sets.domain-at-test w a) (sets.domain-at-test w b)) not-both (mended.apart? (form a) (form b))
-
-  pub order-refused : mended.partialCmp w a b ≡ noOrder ↔ ((InDomain w a → ⊥) ⊎ (InDomain w b → ⊥))
-  order-refused = refused-just orders.Is noOrder (λ v e. let z : _≡_ {A = ℕ} 0 1 = cc in omega arith) (both (sets.domain-at-test w a) (sets.domain-at-test w b)) not-both (mended.inclusion (form a) (form b))
-
-  -- they take proper values as they are: `add w a b` is `Is (sum w a b)`, and so for the others
-  pub mended-answers : (f : Congruence → Congruence → Congruence) → Proper w a → Proper w b → mended.onForms w f a b ≡ Is (f a b)
-  mended-answers f p q = rw (inside a p, inside b q, sets.form-is a (p .canonical), sets.form-is b (q .canonical)) refl
-    where
-      inside : (v : Congruence) → Proper w v → domainAt? w v ≡ true
-      inside v h = is-true (sets.domain-at-test w v) (λ f. f (sets.proper-domain w v h))
-
--- at 64 bits the domain of the width is the domain: every i64 fits
+-- at 64 bits it is the domain: every i64 fits
 pub domain-at-64 : (a : Congruence) → SFits w64 (a .constant) → SFits w64 (a .modulus) → domainAt? w64 a ≡ domain? a
 unfolding domainAt?
 domain-at-64 a f g = rw (is-fit f, is-fit g) (go (domain? a))
@@ -105,188 +104,135 @@ domain-at-64 a f g = rw (is-fit f, is-fit g) (go (domain? a))
     go true = refl
     go false = refl
 
+-- ---- how an operation on canonical forms answers
+
+module _ {A : Type 0} (w : Width) (a b : Congruence) (f : Congruence → Congruence → A) (P : A → Type 0) where
+  answers : (InDomain w a → InDomain w b → P (f (form a) (form b))) → Answers A (Both w a b) P (mended.onForms w f a b)
+  answers g = branch (both (domain-at-test w a) (domain-at-test w b)) (Answers A (Both w a b) P) (λ d. inside (f (form a) (form b)) d (g (d .0) (d .1))) (λ n. outside (λ d. not-both d n))
+
 -- ---- the mended lattice
 
 module _ (w : Width) (a b : Congruence) where
-  pub join-covers : (x : ℤ) → (x ∈ a) ⊎ (x ∈ b) → x ∈ mended.joint w a b
-  join-covers x (inl h) = lattice.joint-left w a b x h
-  join-covers x (inr h) = lattice.joint-right w a b x h
+  -- nothing common
+  pub disjoint-right : Answers Bool (Both w a b) (λ t. t ≡ true ↔ Disjoint a b) (mended.disjoint w a b)
+  disjoint-right = answers w a b mended.apart? (λ t. t ≡ true ↔ Disjoint a b) (λ p q.
+      (λ e. forms.disjoint-of a b .0 (yes (lattice.apart-test (form a) (form b)) e), λ f. is-true (lattice.apart-test (form a) (form b)) (λ s. let t = forms.shared-of a b .0 s in f (t .number) (t .left) (t .right))))
 
-  -- least, but for two single numbers more than MAX apart
-  pub join-least : Proper w a → Proper w b → Fitting w a b (pos (natAbs (a .constant -ℤ b .constant))) → (d : Congruence) → a ⊆ d → b ⊆ d → mended.joint w a b ⊆ d
-  join-least p q f = lattice.joint-least w a b (lattice.spread-fits w a b p q f)
+  -- the order is inclusion
+  pub order-right : Answers Order (Both w a b) (Ordered (a ⊆ b) (b ⊆ a)) (mended.partialCmp w a b)
+  unfolding mended.inclusion
+  order-right = answers w a b mended.inclusion (Ordered (a ⊆ b) (b ⊆ a)) (λ p q.
+      branch (lattice.inside-test (form a) (form b)) (Ordered (a ⊆ b) (b ⊆ a))
+      (λ i. branch (lattice.inside-test (form b) (form a)) (Ordered (a ⊆ b) (b ⊆ a)) (λ j. equal (within-of a b .0 i) (within-of b a .0 j)) (λ j. less (within-of a b .0 i) (λ k. j (within-of b a .1 k))))
+      (λ i. branch (lattice.inside-test (form b) (form a)) (Ordered (a ⊆ b) (b ⊆ a)) (λ j. greater (λ k. i (within-of a b .1 k)) (within-of b a .0 j)) (λ j. unordered (λ k. i (within-of a b .1 k)) (λ k. j (within-of b a .1 k)))))
+    where
+      within-of : (u v : Congruence) → form u ⊆ form v ↔ u ⊆ v
+      within-of u v = (λ f x h. form-out v x (f x (form-in u x h)), λ f x h. form-in v x (f x (form-out u x h)))
 
-  -- which give top
-  pub join-far : a .modulus ≡ pos 0 → b .modulus ≡ pos 0 → fits? w (pos (natAbs (a .constant -ℤ b .constant))) ≡ false → mended.joint w a b ≡ top
-  join-far = lattice.joint-far w a b
-
-  pub join-proper : Proper w a → Proper w b → Proper w (mended.joint w a b)
-  join-proper = lattice.joint-proper w a b
-
-  pub meet-covers : (x : ℤ) → x ∈ a → x ∈ b → x ∈ mended.common w a b
-  meet-covers = lattice.common-covers w a b
-
-  -- exactly the common numbers, where the lcm fits
-  pub meet-exact : SFits w (pos (lcm (natAbs (a .modulus)) (natAbs (b .modulus)))) → (x : ℤ) → x ∈ mended.common w a b ↔ ((x ∈ a) × (x ∈ b))
-  meet-exact f x = (lattice.common-only w a b f x, λ h. lattice.common-covers w a b x (h .0) (h .1))
-
-  pub meet-proper : Proper w a → Proper w b → Proper w (mended.common w a b)
-  meet-proper = lattice.common-proper w a b
+  -- least; top if two single numbers are more than MAX apart
+  pub join-right : Mends w (Both w a b) (JoinOf w a b) (mended.join w a b)
+  join-right = answers w a b (mended.joint w) (λ v. Proper w v × JoinOf w a b v) (λ p q.
+      let i = form-proper w a p in
+      let j = form-proper w b q in
+      (lattice.joint-proper w (form a) (form b) i j, forms.join-of a b w _ (lattice.joint-is w (form a) (form b) i j)))
 
   -- widen is join
   pub widen-is-join : mended.widen w a b ≡ mended.join w a b
   widen-is-join = refl
 
--- disjoint exactly if no number is common
-pub disjoint-right : (a b : Congruence) → Decides (Disjoint a b) (Shared a b) (mended.apart? a b)
-disjoint-right = lattice.apart-test
-
--- how two statements lie to each other
-pub data Ordered (P Q : Type 0) : Order → Type 0 where
-  equal : P → Q → Ordered P Q Equal
-  less : P → (Q → ⊥) → Ordered P Q Less
-  greater : (P → ⊥) → Q → Ordered P Q Greater
-  none : (P → ⊥) → (Q → ⊥) → Ordered P Q None
-
--- the order is inclusion
-pub order-is-inclusion : (a b : Congruence) → Ordered (a ⊆ b) (b ⊆ a) (mended.inclusion a b)
-unfolding mended.inclusion
-order-is-inclusion a b = branch (lattice.inside-test a b) (Ordered (a ⊆ b) (b ⊆ a))
-    (λ p. branch (lattice.inside-test b a) (Ordered (a ⊆ b) (b ⊆ a)) (λ q. equal p q) (λ q. less p q))
-    (λ p. branch (lattice.inside-test b a) (Ordered (a ⊆ b) (b ⊆ a)) (λ q. greater p q) (λ q. none p q))
+  -- the common numbers; the left value if the lcm doesn't fit and a common number exists
+  pub meet-right : Mends w (Both w a b) (MeetOf w a b) (mended.meet w a b)
+  meet-right = answers w a b (mended.common w) (λ v. Proper w v × MeetOf w a b v) (λ p q.
+      let i = form-proper w a p in
+      (lattice.common-proper w (form a) (form b) i (form-proper w b q), forms.meet-of a b (p .value) w _ (lattice.common-is w (form a) (form b) (i .canonical))))
 
 -- ---- mended arithmetic
 
+-- exact over whole numbers; where the answer is a single number that doesn't fit, bottom
+pub neg-right : (w : Width) (a : Congruence) → Mends w (InDomain w a) (Exactly w (Negation a)) (mended.neg w a)
+neg-right w a = branch (domain-at-test w a) (Mends w (InDomain w a) (Exactly w (Negation a)))
+    (λ d. inside (mended.negative w (form a)) d (arithmetic.negative-proper w (form a), forms.exactly-of (forms.negation-of a) (arithmetic.negative-exact w (form a) (form-proper w a d))))
+    (λ n. outside n)
+
 module _ (w : Width) (a b : Congruence) where
-  -- exact over the whole numbers
-  pub add-exact : Proper w a → Proper w b → Fitting w a b (a .constant +ℤ b .constant) → (z : ℤ) → z ∈ mended.sum w a b ↔ Sum a b z
-  add-exact p q f z = (arithmetic.sum-out w a b p q z, arithmetic.sum-in w a b f z)
+  pub add-right : Mends w (Both w a b) (Exactly w (Sum a b)) (mended.add w a b)
+  add-right = answers w a b (mended.sum w) (λ v. Proper w v × Exactly w (Sum a b) v) (λ p q.
+      (arithmetic.sum-proper w (form a) (form b), forms.exactly-of (forms.sum-of a b) (arithmetic.sum-exact w (form a) (form b) (form-proper w a p) (form-proper w b q))))
 
-  -- a single number that doesn't fit gives bottom
-  pub add-over : a .modulus ≡ pos 0 → b .modulus ≡ pos 0 → fits? w (a .constant +ℤ b .constant) ≡ false → mended.sum w a b ≡ bottom
-  add-over = arithmetic.sum-over w a b
+  pub sub-right : Mends w (Both w a b) (Exactly w (Difference a b)) (mended.sub w a b)
+  sub-right = answers w a b (mended.difference w) (λ v. Proper w v × Exactly w (Difference a b) v) (λ p q.
+      (arithmetic.difference-proper w (form a) (form b), forms.exactly-of (forms.difference-of a b) (arithmetic.difference-exact w (form a) (form b) (form-proper w a p) (form-proper w b q))))
 
-  pub add-covers : (x y : ℤ) → SFits w (x +ℤ y) → x ∈ a → y ∈ b → (x +ℤ y) ∈ mended.sum w a b
-  add-covers x y f p q = arithmetic.sum-in w a b (λ i j. subst (λ t. SFits w t) (ap (λ t. t +ℤ y) (single-is a x i p) ∙ ap (λ t. a .constant +ℤ t) (single-is b y j q)) f) (x +ℤ y)
-      (record { x = x; y = y; left = p; right = q; is = refl })
+  -- by 000's formula; it covers every product that fits
+  pub mul-right : Mends w (Both w a b) (λ v. ProductOf w (form a) (form b) v × CoversProducts w a b v) (mended.mul w a b)
+  mul-right = answers w a b (mended.product w) (λ v. Proper w v × (ProductOf w (form a) (form b) v × CoversProducts w a b v)) (λ p q.
+      (arithmetic.product-proper w (form a) (form b), (arithmetic.product-is w (form a) (form b) (form-proper w a p) (form-proper w b q), λ x y h k f. arithmetic.product-covers w (form a) (form b) x y f (form-in a x h) (form-in b y k))))
 
-  pub sub-exact : Proper w a → Proper w b → Fitting w a b (a .constant -ℤ b .constant) → (z : ℤ) → z ∈ mended.difference w a b ↔ Difference a b z
-  sub-exact p q f z = (arithmetic.difference-out w a b p q z, arithmetic.difference-in w a b f z)
+  -- 000's rule with the divisor's sign dropped from the modulus; it covers every quotient that fits
+  pub div-right : Mends w (Both w a b) (λ v. QuotientOf w (form a) (form b) v × CoversQuotients w a b v) (mended.div w a b)
+  div-right = answers w a b (mended.quotient w) (λ v. Proper w v × (QuotientOf w (form a) (form b) v × CoversQuotients w a b v)) (λ p q.
+      let i = form-proper w a p in
+      (quotients.quotient-proper w (form a) (form b) i, (quotients.quotient-is w (form a) (form b) i, λ x y h k n f. quotients.quotient-covers w (form a) (form b) i x y n f (form-in a x h) (form-in b y k))))
 
-  pub sub-over : a .modulus ≡ pos 0 → b .modulus ≡ pos 0 → fits? w (a .constant -ℤ b .constant) ≡ false → mended.difference w a b ≡ bottom
-  sub-over = arithmetic.difference-over w a b
+-- bottom in, bottom out
+module _ (w : Width) (a : Congruence) (d : InDomain w a) where
+  in-it : (v : Congruence) → InDomain w v → domainAt? w v ≡ true
+  in-it v i = is-true (domain-at-test w v) (λ f. f i)
 
-  pub sub-covers : (x y : ℤ) → SFits w (x -ℤ y) → x ∈ a → y ∈ b → (x -ℤ y) ∈ mended.difference w a b
-  sub-covers x y f p q = arithmetic.difference-in w a b (λ i j. subst (λ t. SFits w t) (ap (λ t. t -ℤ y) (single-is a x i p) ∙ ap (λ t. a .constant -ℤ t) (single-is b y j q)) f) (x -ℤ y)
-      (record { x = x; y = y; left = p; right = q; is = refl })
+  bottom-in-it : domainAt? w bottom ≡ true
+  bottom-in-it = in-it bottom (sets.proper-domain w bottom (sets.bottom-proper w))
 
-  -- covering every result that fits
-  pub mul-covers : (x y : ℤ) → SFits w (x *ℤ y) → x ∈ a → y ∈ b → (x *ℤ y) ∈ mended.product w a b
-  mul-covers = arithmetic.product-covers w a b
+  form-bottom : form bottom ≡ bottom
+  form-bottom = sets.form-is bottom (sets.bottom-proper w .canonical)
 
-  -- 000's formula for the modulus: where the products fit, it is their gcd, or that this doesn't fit
-  pub mul-formula : Proper w a → Proper w b → SFits w (a .modulus *ℤ b .modulus) → SFits w (a .modulus *ℤ b .constant) → SFits w (b .modulus *ℤ a .constant) → formula w a b ≡ exactly w (pos (arithmetic.D a b))
-  mul-formula = arithmetic.formula-of w a b
+  module _ (f : Congruence → Congruence → Congruence) where
+    left-bottom : f bottom (form a) ≡ bottom → mended.onForms w f bottom a ≡ is bottom
+    left-bottom h = rw (bottom-in-it, in-it a d, form-bottom) (ap is h)
 
-  pub div-covers : Proper w a → (x y : ℤ) → y ≢ pos 0 → SFits w (quotZ x y) → x ∈ a → y ∈ b → quotZ x y ∈ mended.quotient w a b
-  div-covers = quotients.quotient-covers w a b
+    right-bottom : f (form a) bottom ≡ bottom → mended.onForms w f a bottom ≡ is bottom
+    right-bottom h = rw (in-it a d, bottom-in-it, form-bottom) (ap is h)
 
-  -- canonical answers, of the width
-  pub arithmetic-proper : Proper w a → Proper w (mended.negative w a) × Proper w (mended.sum w a b) × Proper w (mended.difference w a b) × Proper w (mended.product w a b) × Proper w (mended.quotient w a b)
-  arithmetic-proper p = (arithmetic.negative-proper w a, arithmetic.sum-proper w a b, arithmetic.difference-proper w a b, arithmetic.product-proper w a b, quotients.quotient-proper w a b p)
+  pub neg-bottom : mended.neg w bottom ≡ is bottom
+  unfolding mended.negative
+  neg-bottom = rw (bottom-in-it, form-bottom, sets.bottom-is) refl
 
-module _ (w : Width) (a : Congruence) where
-  pub neg-exact : Proper w a → (a .modulus ≡ pos 0 → SFits w (negℤ (a .constant))) → (z : ℤ) → z ∈ mended.negative w a ↔ Negation a z
-  neg-exact p f z = (arithmetic.negative-out w a p z, arithmetic.negative-in w a f z)
+  pub add-bottom : (mended.add w bottom a ≡ is bottom) × (mended.add w a bottom ≡ is bottom)
+  unfolding mended.sum
+  add-bottom = (left-bottom (mended.sum w) (lattice.beside-left (form a) _), right-bottom (mended.sum w) (lattice.beside-right (form a) _))
 
-  pub neg-over : a .modulus ≡ pos 0 → fits? w (negℤ (a .constant)) ≡ false → mended.negative w a ≡ bottom
-  neg-over = arithmetic.negative-over w a
+  pub sub-bottom : (mended.sub w bottom a ≡ is bottom) × (mended.sub w a bottom ≡ is bottom)
+  unfolding mended.difference
+  sub-bottom = (left-bottom (mended.difference w) (lattice.beside-left (form a) _), right-bottom (mended.difference w) (lattice.beside-right (form a) _))
+
+  pub mul-bottom : (mended.mul w bottom a ≡ is bottom) × (mended.mul w a bottom ≡ is bottom)
+  unfolding mended.product
+  mul-bottom = (left-bottom (mended.product w) (lattice.beside-left (form a) _), right-bottom (mended.product w) (lattice.beside-right (form a) _))
+
+  pub div-bottom : (mended.div w bottom a ≡ is bottom) × (mended.div w a bottom ≡ is bottom)
+  unfolding mended.quotient
+  div-bottom = (left-bottom (mended.quotient w) (lattice.beside-left (form a) _), right-bottom (mended.quotient w) (lattice.beside-right (form a) _))
 
 -- ---- comparisons
 
-module _ (a b : Congruence) where
-  -- = is (0, 0) exactly if disjoint
-  pub equals-false : mended.equality a b ≡ cong (pos 0) (pos 0) ↔ Disjoint a b
-  equals-false = comparisons.equality-false a b
+module _ (w : Width) (a b : Congruence) where
+  -- false exactly if disjoint, true exactly for equal single numbers, else top; it shows the truth of every pair
+  pub equals-right : Mends w (Both w a b) (λ v. EqualityOf a b v × Shows _≟_ a b v) (mended.equals w a b)
+  equals-right = answers w a b mended.equality (λ v. Proper w v × (EqualityOf a b v × Shows _≟_ a b v)) (λ p q.
+      (comparisons.equality-proper (form a) (form b) w, (forms.equality-of a b _ (comparisons.equality-is (form a) (form b)), λ x y h k. comparisons.equality-right (form a) (form b) x y (form-in a x h) (form-in b y k))))
 
-  -- what is shown has the truth of every pair
-  pub equals-right : (x y : ℤ) → x ∈ a → y ∈ b → truth (x ≟ y) ∈ mended.equality a b
-  equals-right = comparisons.equality-right a b
+  -- as 002: two single numbers are compared, all else gives top; they show the truth of every pair
+  compared : (test : ℤ → ℤ → Bool) → Mends w (Both w a b) (λ v. ComparisonOf test a b v × Shows test a b v) (mended.onForms w (mended.comparison test) a b)
+  compared test = answers w a b (mended.comparison test) (λ v. Proper w v × (ComparisonOf test a b v × Shows test a b v)) (λ p q.
+      (comparisons.comparison-proper (form a) (form b) w test, (forms.comparison-of a b test _ (comparisons.comparison-is (form a) (form b) test), λ x y h k. comparisons.comparison-right (form a) (form b) test x y (form-in a x h) (form-in b y k))))
 
-  -- with the tests <, >, ≤ and ≥
-  pub comparison-right : (test : ℤ → ℤ → Bool) (x y : ℤ) → x ∈ a → y ∈ b → truth (test x y) ∈ mended.comparison test a b
-  comparison-right = comparisons.comparison-right a b
+  pub less-right : Mends w (Both w a b) (λ v. ComparisonOf _<?_ a b v × Shows _<?_ a b v) (mended.less w a b)
+  less-right = compared _<?_
 
-  pub comparisons-proper : (w : Width) (test : ℤ → ℤ → Bool) → Proper w (mended.equality a b) × Proper w (mended.comparison test a b)
-  comparisons-proper w test = (comparisons.equality-proper a b w, comparisons.comparison-proper a b w test)
+  pub greater-right : Mends w (Both w a b) (λ v. ComparisonOf (λ x y. y <? x) a b v × Shows (λ x y. y <? x) a b v) (mended.greater w a b)
+  greater-right = compared (λ x y. y <? x)
 
--- the logic of 000, on truth values
-pub and-covers : (a b : Congruence) (s t : Bool) → truth s ∈ a → truth t ∈ b → truth (s && t) ∈ ported.conjoined a b
-and-covers = comparisons.and-covers
+  pub less-or-equal-right : Mends w (Both w a b) (λ v. ComparisonOf _≤?_ a b v × Shows _≤?_ a b v) (mended.lessOrEqual w a b)
+  less-or-equal-right = compared _≤?_
 
-pub or-covers : (a b : Congruence) (s t : Bool) → truth s ∈ a → truth t ∈ b → truth (s || t) ∈ ported.disjoined a b
-or-covers = comparisons.or-covers
-
-pub not-covers : (a : Congruence) (s : Bool) → truth s ∈ a → truth (not s) ∈ ported.inverted a
-not-covers = comparisons.not-covers
-
-pub logic-proper : (w : Width) (a b : Congruence) → Proper w (ported.conjoined a b) × Proper w (ported.disjoined a b) × Proper w (ported.inverted a)
-logic-proper w a b = (comparisons.and-proper w a b, comparisons.or-proper w a b, comparisons.not-proper w a b)
-
--- ---- the ported operations cover, where they answer
-
-module _ (a b v : Congruence) where
-  pub ported-join-covers : ported.join a b ≡ Is v → (x : ℤ) → (x ∈ a) ⊎ (x ∈ b) → x ∈ v
-  ported-join-covers h x (inl p) = covers.joined-left a b v (covers.inside a b (ported.joined a b) v h) x p
-  ported-join-covers h x (inr p) = covers.joined-right a b v (covers.inside a b (ported.joined a b) v h) x p
-
-  pub ported-add-covers : ported.add a b ≡ Is v → (x y : ℤ) → x ∈ a → y ∈ b → (x +ℤ y) ∈ v
-  ported-add-covers h x y p q = covers.added-covers a b v x y p q (covers.inside a b (ported.added a b) v h)
-
-  pub ported-sub-covers : ported.sub a b ≡ Is v → (x y : ℤ) → x ∈ a → y ∈ b → (x -ℤ y) ∈ v
-  ported-sub-covers h = covers.subtracted-covers a b v (covers.inside a b (ported.subtracted a b) v h)
-
-  pub ported-mul-covers : ported.mul a b ≡ Is v → (x y : ℤ) → x ∈ a → y ∈ b → (x *ℤ y) ∈ v
-  ported-mul-covers h x y p q = covers.multiplied-covers a b v x y p q (covers.inside a b (ported.multiplied a b) v h)
-
-  pub ported-div-covers : ported.div a b ≡ Is v → (x y : ℤ) → y ≢ pos 0 → x ∈ a → y ∈ b → quotZ x y ∈ v
-  ported-div-covers h = covers.divided-covers a b v (covers.inside a b (ported.divided a b) v h)
-
--- ---- where the Rust is wrong by those sets
-
-abbrev minus-one : Congruence
-minus-one = cong (negsuc 0) (pos 0)
-
-abbrev two-of-three : Congruence
-two-of-three = cong (pos 2) (pos 3)
-
--- error 5: -1 is a number of (2, 3); the ported operations take it for none, since they compare remainders by sign
-pub error-5 : (minus-one ⊆ two-of-three)
-    × (ported.disjoint minus-one two-of-three ≡ truths.Is true)
-    × (ported.equals minus-one two-of-three ≡ Is (cong (pos 0) (pos 0)))
-    × (ported.partialCmp minus-one two-of-three ≡ orders.Is None)
-    × (ported.meet minus-one two-of-three ≡ Is bottom)
-unfolding within2 domain? bottom? _≟_ _<?_ ported.separated ported.equated ported.onTruth ported.ordered ported.same? ported.below? ported.met mended.inside? mended.has? alike?
-error-5 = (yes (lattice.inside-test minus-one two-of-three) refl, refl, refl, refl, refl)
-
--- and `disjoint` takes the bottom for numbers: it stands for none, yet isn't disjoint from top
-pub error-5-bottom : Disjoint bottom top × (ported.disjoint bottom top ≡ truths.Is false)
-unfolding within2 domain? bottom? _≟_ _<?_ ported.separated ported.indivisible exactly fits? _≤?_ gcd steps
-error-5-bottom = (λ x h k. sets.none x h, refl)
-
--- error 6: the meet keeps the left constant: 5 is common to (1, 2) and (2, 3), and not in (1, 6)
-pub error-6 : (ported.meet (cong (pos 1) (pos 2)) two-of-three ≡ Is (cong (pos 1) (pos 6)))
-    × (pos 5 ∈ cong (pos 1) (pos 2)) × (pos 5 ∈ two-of-three) × (pos 5 ∈ cong (pos 1) (pos 6) → ⊥)
-unfolding within2 domain? bottom? _≟_ _<?_ _≤?_ ported.met ported.metClasses ported.onTruth ported.indivisible ported.reduced ported.normalize absThen exactly fits? gcd lcm steps mended.has? alike?
-error-6 = (
-  refl,
-  yes (lattice.has-test (cong (pos 1) (pos 2)) (pos 5) refl) refl,
-  yes (lattice.has-test two-of-three (pos 5) refl) refl,
-  no (lattice.has-test (cong (pos 1) (pos 6)) (pos 5) refl) refl,
-)
-
--- error 8: widening answers the new value alone, which has not the previous numbers
-pub error-8 : (ported.widen (cong (pos 1) (pos 0)) (cong (pos 0) (pos 0)) ≡ Is (cong (pos 1) (pos 0)))
-    × (pos 0 ∈ cong (pos 0) (pos 0)) × (pos 0 ∈ cong (pos 1) (pos 0) → ⊥)
-unfolding within2 domain? bottom? _≟_ _<?_ mended.has? alike?
-error-8 = (refl, sets.alone-in (pos 0), no (lattice.has-test (cong (pos 1) (pos 0)) (pos 0) refl) refl)
+  pub greater-or-equal-right : Mends w (Both w a b) (λ v. ComparisonOf (λ x y. y ≤? x) a b v × Shows (λ x y. y ≤? x) a b v) (mended.greaterOrEqual w a b)
+  greater-or-equal-right = compared (λ x y. y ≤? x)

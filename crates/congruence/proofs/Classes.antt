@@ -5,7 +5,7 @@ use mathlib.Core.Logic.{_≢_, _⊎_, inl, inr}
 use Prim.Native.Nat.{ℕ, zero, suc, _*_, _/_, _%_, _≤_, _<_}
 use native.Mathlib.Omega.{arith}
 use native.Mathlib.Nat.{div-add-mod'}
-use lib.IntN.{ℤ, pos, negsuc, natAbs, _-ℤ_}
+use lib.IntN.{ℤ, pos, natAbs, _-ℤ_}
 use lib.Pow.{pow-pos}
 use mir.Syntax.{Width}
 use mir.Val.{hbits}
@@ -14,8 +14,8 @@ use Rattle.whole.specs.Choice.{pick}
 use Rattle.whole.specs.Range.{fits?}
 use Rattle.whole.specs.Divides.{_∣ℤ_, gcd, lcm, Cong, floorRem}
 use Rattle.whole.proofs.Linear.{ints, abs}
-use Rattle.whole.proofs.Divides.{∣-trans, ∣-neg, zero-∣, ∣-≤}
-use Rattle.whole.proofs.CommonDivisor.{exact, gcd-left, lcm-left, lcm-right, lcm-least}
+use Rattle.whole.proofs.Divides.{∣-trans, zero-∣, ∣-≤}
+use Rattle.whole.proofs.CommonDivisor.{exact, gcd-left, lcm-left, lcm-right, lcm-least, lcm-comm}
 use Rattle.whole.proofs.Congruence.{∣-natAbs, ∣-to-natAbs, Cong-sym, Cong-trans, meet-needs, meet-at, meet-left, meet-right}
 use Rattle.whole.proofs.Decides.{Decides, eqb-test, both, yes, is-true, is-false, weaken}
 use Rattle.whole.proofs.Floor.{floor-low, floor-high, floor-class, same-residue}
@@ -76,6 +76,13 @@ lcm-pos m n h k = go (m / gcd m n) (exact m (gcd m n) (gcd-left m n))
     go : (q : ℕ) → q * gcd m n ≡ m → 0 < q * n
     go zero e = absurd (omega arith)
     go (suc q) e = omega arith
+
+pub lcm-n-0 : (n : ℕ) → lcm n 0 ≡ 0
+unfolding lcm
+lcm-n-0 n = omega arith
+
+pub lcm-0-n : (n : ℕ) → lcm 0 n ≡ 0
+lcm-0-n n = lcm-comm 0 n ∙ lcm-n-0 n
 
 -- a divisor of a number other than 0 is at most that number, and other than 0
 pub divisor-some : (m l : ℕ) → 0 < l → pos m ∣ℤ pos l → 0 < m

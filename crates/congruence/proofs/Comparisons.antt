@@ -1,21 +1,22 @@
 -- The mended comparisons and the logic of truth values: what they show has the truth of every pair of numbers.
 use mathlib.Core.Path.{_≡_, refl, sym, ap, ap₂, _∙_, subst}
 use mathlib.Core.Bool.{Bool, true, false, not, _&&_, _||_}
-use mathlib.Core.Logic.{_≢_, _↔_, _⊎_, inl, inr}
+use mathlib.Core.Logic.{_≢_, _⊎_, inl, inr}
 use lib.IntN.{ℤ, pos}
 use mir.Syntax.{Width}
 use mir.Val.{SFits}
 use Rattle.whole.specs.Test.{_≟_, truth}
 use Rattle.whole.proofs.Linear.{ints}
 use Rattle.whole.proofs.Fits.{zero-fits}
-use Rattle.whole.proofs.Decides.{Decides, eq-test, both, either, weaken, branch, is-true, unequal}
+use Rattle.whole.proofs.Decides.{Decides, eq-test, both, either, weaken, branch, is-true, is-false, unequal}
 use Rattle.congruence.specs.declared.Congruence.{Congruence}
 use Rattle.congruence.specs.Set.{cong, top, _∈_, Proper}
+use Rattle.congruence.specs.Meaning.{Shared, Disjoint, Singles, OneNumber, EqualityOf, ComparisonOf}
 use Rattle.congruence.specs.Mended.{equality, comparison}
 use Rattle.congruence.specs.Ported.{only?, conjoined, disjoined, inverted}
-use Rattle.congruence.proofs.Sets.{all, alone-in, alone-out, single-is, one-fits, top-proper, single-proper}
-use Rattle.congruence.proofs.Lattice.{Disjoint, apart-test}
-use Rattle.congruence.proofs.Arithmetic.{singles-test}
+use Rattle.congruence.proofs.Sets.{bottom-test, own, all, alone-in, alone-out, single-is, one-fits, top-proper, single-proper}
+use Rattle.congruence.proofs.Lattice.{apart-test}
+use Rattle.congruence.proofs.Arithmetic.{singles-test, not-both}
 
 pub truth-fits : (w : Width) (t : Bool) → SFits w (truth t)
 truth-fits w true = one-fits w
@@ -33,18 +34,28 @@ module _ (a b : Congruence) where
       (λ i. shows (x ≟ y) true (is-true (eq-test x y) (λ n. n (single-is a x (i .0) p ∙ sym (single-is a (s .number) (i .0) (s .left)) ∙ (single-is b (s .number) (i .1) (s .right) ∙ sym (single-is b y (i .1) q))))))
       (λ i. all (truth (x ≟ y))))
 
-  -- 0 is shown exactly if nothing is common
-  pub equality-false : equality a b ≡ cong (pos 0) (pos 0) ↔ Disjoint a b
-  unfolding equality
-  equality-false = (
-    λ h. branch (apart-test a b) (λ t. t ≡ cong (pos 0) (pos 0) → Disjoint a b) (λ f e. f) (λ s. branch (singles-test a b) (λ t. t ≡ cong (pos 0) (pos 0) → Disjoint a b) (λ i e. absurd (other e)) (λ i e. absurd (wide e))) h,
-    λ f. rw (is-true (apart-test a b) (λ s. f (s .number) (s .left) (s .right))) refl,
-  )
-    where
-      other : cong (pos 1) (pos 0) ≡ cong (pos 0) (pos 0) → ⊥
-      other e = let i : pos 1 ≡ pos 0 = ap (λ v. v .constant) e in omega ints
+  -- two single numbers that share one are equal
+  alike-one : Singles a b → Shared a b → a .constant ≡ b .constant
+  alike-one i s = sym (single-is a (s .number) (i .0) (s .left)) ∙ single-is b (s .number) (i .1) (s .right)
 
-      wide : top ≡ cong (pos 0) (pos 0) → ⊥
+  one-shared : OneNumber a b → Disjoint a b → ⊥
+  one-shared o f = f (a .constant) (own-in a (o .0 .0)) (subst (λ t. t ∈ b) (sym (o .1)) (own-in b (o .0 .1)))
+    where
+      own-in : (v : Congruence) → v .modulus ≡ pos 0 → v .constant ∈ v
+      own-in v e = own v (is-false (bottom-test v) (λ i. let j : v .modulus ≡ pos 1 = ap (λ t. t .modulus) i in omega ints))
+
+  pub equality-is : EqualityOf a b (equality a b)
+  unfolding equality
+  equality-is = branch (apart-test a b) (EqualityOf a b)
+      (λ f. record { never = (λ e. f, λ d. refl); always = (λ e. absurd (zero-one (sym e)), λ o. absurd (one-shared o f)); unknown = λ s n. absurd (f (s .number) (s .left) (s .right)) })
+      (λ s. branch (singles-test a b) (EqualityOf a b)
+      (λ i. record { never = (λ e. absurd (zero-one e), λ d. absurd (d (s .number) (s .left) (s .right))); always = (λ e. (i, alike-one i s), λ o. refl); unknown = λ t n. absurd (n (i, alike-one i s)) })
+      (λ i. record { never = (λ e. absurd (wide e), λ d. absurd (d (s .number) (s .left) (s .right))); always = (λ e. absurd (wide e), λ o. absurd (not-both (o .0) i)); unknown = λ t n. refl }))
+    where
+      zero-one : cong (pos 1) (pos 0) ≡ cong (pos 0) (pos 0) → ⊥
+      zero-one e = let i : pos 1 ≡ pos 0 = ap (λ v. v .constant) e in omega ints
+
+      wide : {c : ℤ} → top ≡ cong c (pos 0) → ⊥
       wide e = let i : pos 1 ≡ pos 0 = ap (λ v. v .modulus) e in omega ints
 
   pub equality-proper : (w : Width) → Proper w (equality a b)
@@ -54,6 +65,10 @@ module _ (a b : Congruence) where
   pub comparison-right : (test : ℤ → ℤ → Bool) (x y : ℤ) → x ∈ a → y ∈ b → truth (test x y) ∈ comparison test a b
   unfolding comparison
   comparison-right test x y p q = branch (singles-test a b) (λ t. truth (test x y) ∈ t) (λ i. shows (test x y) (test (a .constant) (b .constant)) (ap₂ test (single-is a x (i .0) p) (single-is b y (i .1) q))) (λ i. all (truth (test x y)))
+
+  pub comparison-is : (test : ℤ → ℤ → Bool) → ComparisonOf test a b (comparison test a b)
+  unfolding comparison
+  comparison-is test = branch (singles-test a b) (ComparisonOf test a b) (λ i. record { single = λ j. refl; unknown = λ n. absurd (n i) }) (λ i. record { single = λ j. absurd (not-both j i); unknown = λ n. refl })
 
   pub comparison-proper : (w : Width) (test : ℤ → ℤ → Bool) → Proper w (comparison test a b)
   unfolding comparison

@@ -5,14 +5,14 @@ use mathlib.Core.Logic.{_≢_, _⊎_, inl, inr}
 use Prim.Native.Nat.{ℕ, zero, suc, _≤_, _<_}
 use native.Mathlib.Omega.{arith}
 use lib.IntN.{ℤ, pos, natAbs, _+ℤ_, _-ℤ_, _*ℤ_}
-use mir.Syntax.{Width}
+use mir.Syntax.{Width, w64}
 use mir.Val.{SFits}
 use Rattle.whole.specs.Choice.{pick}
 use Rattle.whole.specs.Range.{fits?}
 use Rattle.whole.specs.Divides.{_∣ℤ_, gcd, lcm, Cong}
 use Rattle.whole.proofs.Linear.{ints, wholes, read, abs, from-≢}
-use Rattle.whole.proofs.Fits.{machine, range}
-use Rattle.whole.proofs.Decides.{Decides, eq-test, both, either, isn't, weaken, branch, is-true, is-false, yes, no, fits-test, is-fit}
+use Rattle.whole.proofs.Fits.{machine, range, zero-fits}
+use Rattle.whole.proofs.Decides.{Decides, holds, fails, Beyond, eq-test, both, either, isn't, weaken, branch, is-true, is-false, yes, no, fits-test, not-beyond, is-fit}
 use Rattle.whole.proofs.Divides.{∣-trans, ∣-antisym, ∣-≤}
 use Rattle.whole.proofs.CommonDivisor.{gcd-left, gcd-right, gcd-n-0, gcd-0-n}
 use Rattle.whole.proofs.Ring.{natAbs-zero}
@@ -21,9 +21,10 @@ use Rattle.whole.proofs.Floor.{same-residue}
 use Rattle.congruence.specs.declared.Congruence.{Congruence}
 use Rattle.congruence.specs.Set.{cong, top, bottom, bottom?, _∈_, _⊆_, Canonical, single, nothing, reduced, Proper}
 use Rattle.congruence.specs.Numbers.{alike?}
+use Rattle.congruence.specs.Meaning.{Shared, Disjoint, Far, JoinOf, lcmOf, MeetOf}
 use Rattle.congruence.specs.Mended.{classOf, has?, apart?, inside?, joint, overlap, common, beside}
-use Rattle.congruence.proofs.Classes.{alike-test, overlap-none, overlap-is, shared, shared-below, shared-left, shared-right, lcm-pos}
-use Rattle.congruence.proofs.Sets.{clash, by, bottom-test, none, own, equal-at-0, single-is, canonical-modulus, bottom-proper}
+use Rattle.congruence.proofs.Classes.{alike-test, overlap-none, overlap-is, shared, shared-below, shared-left, shared-right, lcm-pos, lcm-n-0, lcm-0-n}
+use Rattle.congruence.proofs.Sets.{clash, by, bottom-test, bottom-is, none, own, equal-at-0, single-is, canonical-modulus, form-is, bottom-proper}
 use Rattle.congruence.proofs.Results.{class-in, class-out, class-over, class-proper}
 
 -- ---- inclusion
@@ -109,15 +110,6 @@ unique a b p q f g = by (bottom? a)
 
 -- ---- nothing common
 
--- a number of both
-pub record Shared (a b : Congruence) : Type 0 where
-  pub number : ℤ
-  pub left : number ∈ a
-  pub right : number ∈ b
-
-abbrev pub Disjoint : Congruence → Congruence → Type 0
-Disjoint a b = (x : ℤ) → x ∈ a → x ∈ b → ⊥
-
 pub apart-test : (a b : Congruence) → Decides (Disjoint a b) (Shared a b) (apart? a b)
 unfolding apart?
 apart-test a b = weaken there near (either (either (bottom-test a) (bottom-test b)) (isn't (alike-test (gcd (m a b) (n a b)) (c a b) (e a b))))
@@ -156,31 +148,34 @@ module _ (w : Width) (a b : Congruence) where
   unfolding joint
   neither h k = rw (h, k) refl
 
-  pub joint-left : a ⊆ joint w a b
+  joint-left : a ⊆ joint w a b
   joint-left x h = by (bottom? b)
       (λ k. subst (λ t. x ∈ t) (sym (right-bottom (h .some) k)) h)
       (λ k. subst (λ t. x ∈ t) (sym (neither (h .some) k)) (class-in w (a .constant) spread x (join-left (m a b) (n a b) (a .constant) (b .constant) x (h .class))))
 
-  pub joint-right : b ⊆ joint w a b
+  joint-right : b ⊆ joint w a b
   joint-right x h = by (bottom? a)
       (λ k. subst (λ t. x ∈ t) (sym (left-bottom k)) h)
       (λ k. subst (λ t. x ∈ t) (sym (neither k (h .some))) (class-in w (a .constant) spread x (join-right (m a b) (n a b) (a .constant) (b .constant) x (h .class))))
 
-  pub joint-least : SFits w (pos spread) → (d : Congruence) → a ⊆ d → b ⊆ d → joint w a b ⊆ d
+  -- every value that has both has the class
+  pub spread-least : bottom? a ≡ false → bottom? b ≡ false → (d : Congruence) → a ⊆ d → b ⊆ d → (x : ℤ) → Cong spread x (a .constant) → x ∈ d
+  spread-least k l d f g x h = let u = f (a .constant) (own a k) in record {
+    some = u .some;
+    class = Cong-trans x (a .constant) (d .constant)
+        (∣-trans (join-best (m a b) (n a b) (a .constant) (b .constant) (natAbs (d .modulus)) (d .constant) (λ y p. f y (record { some = k; class = p }) .class) (λ y p. g y (record { some = l; class = p }) .class)) h)
+        (u .class);
+  }
+
+  joint-least : SFits w (pos spread) → (d : Congruence) → a ⊆ d → b ⊆ d → joint w a b ⊆ d
   joint-least fit d f g x h = by (bottom? a)
       (λ k. g x (subst (λ t. x ∈ t) (left-bottom k) h))
       (λ k. by (bottom? b)
       (λ l. f x (subst (λ t. x ∈ t) (right-bottom k l) h))
-      (λ l. let u = f (a .constant) (own a k) in record {
-        some = u .some;
-        class = Cong-trans x (a .constant) (d .constant)
-            (∣-trans (join-best (m a b) (n a b) (a .constant) (b .constant) (natAbs (d .modulus)) (d .constant) (λ y p. f y (record { some = k; class = p }) .class) (λ y p. g y (record { some = l; class = p }) .class))
-            (class-out w (a .constant) spread fit x (subst (λ t. x ∈ t) (neither k l) h)))
-            (u .class);
-      }))
+      (λ l. spread-least k l d f g x (class-out w (a .constant) spread fit x (subst (λ t. x ∈ t) (neither k l) h))))
 
   -- the modulus of a join is that of the width but for two single numbers
-  pub spread-fits : Proper w a → Proper w b → (a .modulus ≡ pos 0 → b .modulus ≡ pos 0 → SFits w (pos (natAbs (a .constant -ℤ b .constant)))) → SFits w (pos spread)
+  spread-fits : Proper w a → Proper w b → (a .modulus ≡ pos 0 → b .modulus ≡ pos 0 → SFits w (pos (natAbs (a .constant -ℤ b .constant)))) → SFits w (pos spread)
   spread-fits p q f = go (m a b) (n a b) refl refl
       (subst (λ t. SFits w t) (sym (canonical-modulus a (p .canonical))) (p .modulus-fits)) (subst (λ t. SFits w t) (sym (canonical-modulus b (q .canonical))) (q .modulus-fits))
     where
@@ -189,14 +184,28 @@ module _ (w : Width) (a b : Congruence) where
       go zero (suc l) i j g h = divisor-fits w (gcd (gcd 0 (suc l)) (natAbs (a .constant -ℤ b .constant))) (suc l) (omega arith) (∣-trans (gcd-left (gcd 0 (suc l)) (natAbs (a .constant -ℤ b .constant))) (gcd-right 0 (suc l))) h
       go zero zero i j g h = subst (λ t. SFits w (pos t)) (sym (ap (λ t. gcd t (natAbs (a .constant -ℤ b .constant))) (gcd-n-0 0) ∙ gcd-0-n (natAbs (a .constant -ℤ b .constant)))) (f (natAbs-zero (a .modulus) i) (natAbs-zero (b .modulus) j))
 
-  pub joint-far : a .modulus ≡ pos 0 → b .modulus ≡ pos 0 → fits? w (pos (natAbs (a .constant -ℤ b .constant))) ≡ false → joint w a b ≡ top
-  joint-far i j f = neither (single-some a i) (single-some b j) ∙ class-over w (a .constant) spread (ap (λ t. fits? w (pos t)) wide ∙ f)
+  joint-far : Far w a b → joint w a b ≡ top
+  joint-far f = neither (single-some a (f .singles .0)) (single-some b (f .singles .1)) ∙ class-over w (a .constant) spread (ap (λ t. fits? w (pos t)) wide ∙ is-false (fits-test w (pos (natAbs (a .constant -ℤ b .constant)))) (λ g. not-beyond g (inr (f .beyond))))
     where
       single-some : (v : Congruence) → v .modulus ≡ pos 0 → bottom? v ≡ false
       single-some v e = is-false (bottom-test v) (λ i. let o : v .modulus ≡ pos 1 = ap (λ t. t .modulus) i in omega ints)
 
       wide : spread ≡ natAbs (a .constant -ℤ b .constant)
-      wide = ap₂ (λ s t. gcd (gcd (natAbs s) (natAbs t)) (natAbs (a .constant -ℤ b .constant))) i j ∙ ap (λ t. gcd t (natAbs (a .constant -ℤ b .constant))) (gcd-n-0 0) ∙ gcd-0-n (natAbs (a .constant -ℤ b .constant))
+      wide = ap₂ (λ s t. gcd (gcd (natAbs s) (natAbs t)) (natAbs (a .constant -ℤ b .constant))) (f .singles .0) (f .singles .1) ∙ ap (λ t. gcd t (natAbs (a .constant -ℤ b .constant))) (gcd-n-0 0) ∙ gcd-0-n (natAbs (a .constant -ℤ b .constant))
+
+  pub joint-is : Proper w a → Proper w b → JoinOf w a b (joint w a b)
+  joint-is p q = record {
+    left = joint-left;
+    right = joint-right;
+    least = λ n. joint-least (spread-fits p q (λ i j. near n i j (fits-test w (pos (natAbs (a .constant -ℤ b .constant))))));
+    far = joint-far;
+  }
+    where
+      -- a distance that isn't beyond MAX fits
+      near : (Far w a b → ⊥) → a .modulus ≡ pos 0 → b .modulus ≡ pos 0 → {t : Bool} → Decides (SFits w (pos (natAbs (a .constant -ℤ b .constant)))) (Beyond w (pos (natAbs (a .constant -ℤ b .constant)))) t → SFits w (pos (natAbs (a .constant -ℤ b .constant)))
+      near n i j (holds f) = f
+      near n i j (fails (inl h)) = absurd (omega ints)
+      near n i j (fails (inr h)) = absurd (n (record { singles = (i, j); beyond = h }))
 
   pub joint-proper : Proper w a → Proper w b → Proper w (joint w a b)
   joint-proper p q = by (bottom? a)
@@ -285,20 +294,44 @@ module _ (w : Width) (a b : Congruence) where
       (λ l. subst (Proper w) (sym (beside-2 v k l)) (bottom-proper w))
       (λ l. subst (Proper w) (sym (beside-3 v k l)) (f k l)))
 
-  pub common-covers : (x : ℤ) → x ∈ a → x ∈ b → x ∈ common w a b
+  common-covers : (x : ℤ) → x ∈ a → x ∈ b → x ∈ common w a b
   unfolding common
   common-covers x p q = subst (λ t. x ∈ t) (sym (beside-3 _ (p .some) (q .some)))
       (branch (eq-test (a .modulus) (pos 0)) (λ t. x ∈ t) (λ i. picked-in a b i (q .some) x p q)
       (λ i. branch (eq-test (b .modulus) (pos 0)) (λ t. x ∈ t) (λ j. picked-in b a j (p .some) x q p)
       (λ j. overlap-covers (p .some) (q .some) i j x p q)))
 
-  pub common-only : SFits w (pos l) → (x : ℤ) → x ∈ common w a b → (x ∈ a) × (x ∈ b)
+  common-only : SFits w (pos l) → (x : ℤ) → x ∈ common w a b → (x ∈ a) × (x ∈ b)
   unfolding common
   common-only f x h =
       let r = beside-some _ x h in
       branch (eq-test (a .modulus) (pos 0)) (λ t. x ∈ t → (x ∈ a) × (x ∈ b)) (λ i k. picked-out a b i (r .0 .1) x k)
       (λ i. branch (eq-test (b .modulus) (pos 0)) (λ t. x ∈ t → (x ∈ a) × (x ∈ b)) (λ j k. let o = picked-out b a j (r .0 .0) x k in (o .1, o .0))
       (λ j k. overlap-only (r .0 .0) (r .0 .1) i j f x k)) (r .1)
+
+  -- nothing common
+  common-none : Disjoint a b → common w a b ≡ bottom
+  unfolding common
+  common-none f = by (bottom? a) (λ k. beside-1 _ k) (λ k. by (bottom? b) (λ o. beside-2 _ k o) (λ o. beside-3 _ k o ∙
+      branch (eq-test (a .modulus) (pos 0)) (λ t. t ≡ bottom) (λ i. branch (has-test b (a .constant) o) (λ t. t ≡ bottom) (λ h. absurd (f (a .constant) (own a k) h)) (λ h. refl))
+      (λ i. branch (eq-test (b .modulus) (pos 0)) (λ t. t ≡ bottom) (λ j. branch (has-test a (b .constant) k) (λ t. t ≡ bottom) (λ h. absurd (f (b .constant) h (own b o))) (λ h. refl))
+      (λ j. overlap-none w a b (λ d. f (meet-at (m a b) (n a b) (c a b) (e a b) d) (record { some = k; class = meet-left (m a b) (n a b) (c a b) (e a b) d }) (record { some = o; class = meet-right (m a b) (n a b) (c a b) (e a b) d }))))))
+
+  -- an lcm that doesn't fit: the left value
+  common-left : (SFits w (lcmOf a b) → ⊥) → Shared a b → common w a b ≡ a
+  unfolding common
+  common-left f s = beside-3 _ (s .left .some) (s .right .some) ∙
+      branch (eq-test (a .modulus) (pos 0)) (λ t. t ≡ a) (λ i. absurd (f (subst (λ t. SFits w (pos t)) (sym (ap (λ t. lcm (natAbs t) (n a b)) i ∙ lcm-0-n (n a b))) zero-fits)))
+      (λ i. branch (eq-test (b .modulus) (pos 0)) (λ t. t ≡ a) (λ j. absurd (f (subst (λ t. SFits w (pos t)) (sym (ap (λ t. lcm (m a b) (natAbs t)) j ∙ lcm-n-0 (m a b))) zero-fits)))
+      (λ j. overlap-is w a b (meet-needs (m a b) (n a b) (c a b) (e a b) (s .number) (s .left .class) (s .right .class)) (l-some (s .left .some) (s .right .some) i j)
+      ∙ branch (fits-test w (pos l)) (λ t. t ≡ a) (λ g. absurd (f g)) (λ g. refl)))
+
+  pub common-is : Canonical a → MeetOf w a b (common w a b)
+  common-is p = record {
+    common = λ f x. (common-only f x, λ h. common-covers x (h .0) (h .1));
+    none = common-none;
+    left = λ f s. common-left f s ∙ sym (form-is a p);
+  }
 
   pub common-proper : Proper w a → Proper w b → Proper w (common w a b)
   unfolding common
@@ -317,3 +350,11 @@ module _ (w : Width) (a b : Congruence) where
           let o = l-some na nb i j in
           subst (Proper w) (sym (overlap-is w a b d o)) (branch (fits-test w (pos l)) (Proper w) (λ f. at (shared w a b d o) (shared-below w a b d o) f) (λ f. p)))
           (λ t. subst (Proper w) (sym (overlap-none w a b (no (alike-test (gcd (m a b) (n a b)) (a .constant) (b .constant)) t))) (bottom-proper w))
+
+-- ---- bottom in, bottom out
+
+pub beside-left : (a v : Congruence) → beside bottom a v ≡ bottom
+beside-left a v = beside-1 w64 bottom a v bottom-is
+
+pub beside-right : (a v : Congruence) → beside a bottom v ≡ bottom
+beside-right a v = by (bottom? a) (λ k. beside-1 w64 a bottom v k) (λ k. beside-2 w64 a bottom v k bottom-is)

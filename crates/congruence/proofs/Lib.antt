@@ -11,5 +11,8 @@ pub mod Lattice
 pub mod Arithmetic
 pub mod Quotients
 pub mod Comparisons
-pub mod Covers
+pub mod Ports
+pub mod Forms
 pub mod Claims
+pub mod ClaimsFixed
+pub mod ClaimsPorted

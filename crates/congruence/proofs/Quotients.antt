@@ -1,27 +1,29 @@
 -- The quotient of a class by a number that divides its constant and its modulus: exact, and so covering; the mended quotient.
 use mathlib.Core.Path.{_≡_, refl, sym, ap, ap₂, _∙_, subst}
-use mathlib.Core.Logic.{_≢_, _⊎_}
-use Prim.Native.Nat.{suc}
+use mathlib.Core.Bool.{Bool}
+use mathlib.Core.Logic.{_≢_, _⊎_, inl, inr}
 use native.Mathlib.Omega.{arith}
 use native.Mathlib.Nat.{div-le-self}
 use lib.IntN.{ℤ, pos, negsuc, natAbs, _+ℤ_, _-ℤ_, _*ℤ_}
-use lib.Signed.{_≤ℤ_, quotZ, remZ}
+use lib.Signed.{_≤ℤ_, _<ℤ_, quotZ, remZ}
 use mir.Syntax.{Width}
 use mir.Val.{SFits}
+use Rattle.whole.specs.Range.{least}
 use Rattle.whole.specs.Divides.{_∣ℤ_, Cong, floorRem}
 use Rattle.whole.specs.Exact.{exactly}
 use Rattle.whole.proofs.Linear.{ints, wholes, read, abs, prod}
-use Rattle.whole.proofs.Fits.{machine, range}
+use Rattle.whole.proofs.Fits.{machine, range, low}
 use Rattle.whole.proofs.Ring.{ring, *ℤ-cancel-r, -ℤ-*ℤ}
-use Rattle.whole.proofs.Decides.{Decides, eq-test, both, branch, is-true, yes, fits-test, is-fit}
-use Rattle.whole.proofs.Divide.{quot-rem, natAbs-quot, fits-quot-above}
+use Rattle.whole.proofs.Decides.{Decides, holds, fails, Beyond, eq-test, lt-test, both, either, branch, is-true, yes, no, fits-test, not-beyond, is-fit}
+use Rattle.whole.proofs.Divide.{quot-rem, natAbs-quot, fits-quot, fits-quot-above}
 use Rattle.whole.proofs.Divides.{∣-trans, ∣-+, ∣-of-rem, rem-of-∣}
 use Rattle.whole.proofs.Congruence.{∣-at}
 use Rattle.whole.proofs.Floor.{to-abs}
 use Rattle.congruence.specs.declared.Congruence.{Congruence}
 use Rattle.congruence.specs.Set.{cong, bottom, _∈_, Canonical, single, nothing, reduced, Proper}
 use Rattle.congruence.specs.Numbers.{absThen, divides?}
-use Rattle.congruence.specs.Mended.{byNumber, quotient}
+use Rattle.congruence.specs.Meaning.{QuotientOf, quotient-of-nothing, by-zero, least-by-minus-one, divided, undivided}
+use Rattle.congruence.specs.Mended.{byNumber, quotient, beside}
 use Rattle.whole.proofs.Found.{found-is, found-fits, not-found}
 use Rattle.congruence.proofs.Sets.{clash, bottom-test, all, single-is, reduced-in, reduced-proper, canonical-positive, top-proper, bottom-proper}
 use Rattle.congruence.proofs.Lattice.{beside-3, beside-proper}
@@ -79,6 +81,10 @@ pub abs-then-is : (w : Width) (z : ℤ) → SFits w z → absThen w (exactly w z
 unfolding absThen exactly
 abs-then-is w z f = rw (is-fit f) refl
 
+-- a divisor that is a single number is one
+pub one-divisor : {b : Congruence} {c d : ℤ} → b ≡ cong c (pos 0) → b ≡ cong d (pos 0) → c ≡ d
+one-divisor e f = ap (λ t. t .constant) (sym e ∙ f)
+
 -- ---- the mended quotient
 
 module _ (w : Width) (a b : Congruence) where
@@ -117,6 +123,54 @@ module _ (w : Width) (a b : Congruence) where
       (λ i. let e = single-is b y i k in branch (eq-test (b .constant) (pos 0)) (λ t. quotZ x y ∈ t) (λ j. absurd (n (e ∙ j)))
       (λ j. subst (λ t. quotZ x t ∈ byNumber w a (b .constant)) (sym e) (by-number-covers p x (b .constant) j h (subst (λ t. SFits w (quotZ x t)) e f))))
       (λ i. all (quotZ x y)))
+
+  -- a quotient that doesn't fit is MIN / -1
+  only-least : (x d : ℤ) → SFits w x → Beyond w (quotZ x d) → (x ≡ least w) × (d ≡ negsuc 0)
+  only-least x d f h = (go (lt-test (least w) x), go-2 (eq-test d (negsuc 0)))
+    where
+      go : {t : Bool} → Decides (least w <ℤ x) (x ≤ℤ least w) t → x ≡ least w
+      go (holds l) = absurd (not-beyond (fits-quot-above w x d f l) h)
+      go (fails l) = let k = low w x f in omega ints
+
+      go-2 : {t : Bool} → Decides (d ≡ negsuc 0) (d ≢ negsuc 0) t → d ≡ negsuc 0
+      go-2 (holds e) = e
+      go-2 (fails n) = absurd (not-beyond (fits-quot x d f n) h)
+
+  -- a canonical value with a negative constant is a single number
+  below-single : Canonical a → a ≢ bottom → a .constant ≡ least w → a ≡ cong (least w) (pos 0)
+  below-single (single e) n i = ap₂ cong i e
+  below-single (nothing e) n i = absurd (n e)
+  below-single (reduced l k) n i = absurd (omega ints)
+
+  by-number-is : Proper w a → a ≢ bottom → (d : ℤ) → b ≡ cong d (pos 0) → d ≢ pos 0 → QuotientOf w a b (byNumber w a d)
+  unfolding byNumber
+  by-number-is p na d i j = branch (divides-test d a) (QuotientOf w a b)
+      (λ r. result-cases (QuotientOf w a b) (exactly w (quotZ (a .constant) d)) (absThen w (exactly w (quotZ (a .modulus) d))) bottom
+      (λ h. let o = only-least (a .constant) d (p .constant-fits) (no (fits-test w (quotZ (a .constant) d)) (not-found w (quotZ (a .constant) d) h)) in least-by-minus-one (below-single (p .canonical) na (o .0)) (i ∙ ap (λ t. cong t (pos 0)) (o .1)))
+      (λ h. absurd (clash (sym (is-fit whole-fits) ∙ not-found w (pos (natAbs (quotZ (a .modulus) d))) (sym whole-is ∙ h))))
+      (λ u k h l. subst (QuotientOf w a b) (sym (ap₂ (λ s t. cong (floorRem s t) t) (found-is w (quotZ (a .constant) d) u h) (found-is w (pos (natAbs (quotZ (a .modulus) d))) k (sym whole-is ∙ l))))
+      (divided na d i j (∣-of-rem d (a .constant) (r .0)) (∣-of-rem d (a .modulus) (r .1)) (yes (fits-test w (quotZ (a .constant) d)) (found-fits w (quotZ (a .constant) d) u h)))))
+      (λ r. undivided na not-bottom (λ e. j (ap (λ t. t .constant) (sym i ∙ e))) (λ k e hc hm. indivisible k e hc hm r))
+    where
+      whole-fits : SFits w (pos (natAbs (quotZ (a .modulus) d)))
+      whole-fits = abs-quot-fits w (a .modulus) d (p .modulus-fits) (canonical-positive a (p .canonical))
+
+      whole-is : absThen w (exactly w (quotZ (a .modulus) d)) ≡ exactly w (pos (natAbs (quotZ (a .modulus) d)))
+      whole-is = abs-then-is w (quotZ (a .modulus) d) (quot-fits w (a .modulus) d (p .modulus-fits) (canonical-positive a (p .canonical)))
+
+      not-bottom : b ≢ bottom
+      not-bottom e = let o : pos 0 ≡ pos 1 = ap (λ t. t .modulus) (sym i ∙ e) in omega ints
+
+      indivisible : (k : ℤ) → b ≡ cong k (pos 0) → k ∣ℤ a .constant → k ∣ℤ a .modulus → (remZ (a .constant) d ≢ pos 0) ⊎ (remZ (a .modulus) d ≢ pos 0) → ⊥
+      indivisible k e hc hm (inl f) = f (rem-of-∣ j (subst (λ t. t ∣ℤ a .constant) (ap (λ t. t .constant) (sym e ∙ i)) hc))
+      indivisible k e hc hm (inr f) = f (rem-of-∣ j (subst (λ t. t ∣ℤ a .modulus) (ap (λ t. t .constant) (sym e ∙ i)) hm))
+
+  pub quotient-is : Proper w a → QuotientOf w a b (quotient w a b)
+  unfolding quotient beside
+  quotient-is p = branch (either (bottom-test a) (bottom-test b)) (QuotientOf w a b) (λ e. quotient-of-nothing e)
+      (λ n. branch (eq-test (b .modulus) (pos 0)) (QuotientOf w a b)
+      (λ i. branch (eq-test (b .constant) (pos 0)) (QuotientOf w a b) (λ j. by-zero (ap₂ cong j i)) (λ j. by-number-is p (n .0) (b .constant) (ap (cong (b .constant)) i) j))
+      (λ i. undivided (n .0) (n .1) (λ e. i (ap (λ t. t .modulus) e)) (λ k e hc hm. i (ap (λ t. t .modulus) e))))
 
   pub quotient-proper : Proper w a → Proper w (quotient w a b)
   unfolding quotient byNumber

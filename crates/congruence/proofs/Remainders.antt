@@ -1,16 +1,13 @@
 -- The magnitude of a difference.
-use mathlib.Core.Path.{_≡_, ap, _∙_}
-use Prim.Native.Nat.{suc, _+_, _-_, _≤_, _<_}
-use native.Mathlib.Nat.{mod-zero, mod-one, div-zero, div-one}
+use mathlib.Core.Path.{_≡_}
+use Prim.Native.Nat.{_+_, _-_, _≤_, _<_}
 use native.Mathlib.Omega.{arith}
-use lib.IntN.{ℤ, pos, negsuc, negℤ, natAbs, _-ℤ_}
-use lib.Signed.{_≤ℤ_, _<ℤ_, quotZ, remZ}
+use lib.IntN.{ℤ, pos, negsuc, natAbs, _-ℤ_}
+use lib.Signed.{_≤ℤ_, _<ℤ_}
 use mir.Syntax.{w64}
 use mir.Val.{SFits}
 use Rattle.whole.proofs.Linear.{ints, sub, abs}
 use Rattle.whole.proofs.Fits.{range}
-use Rattle.whole.proofs.Ring.{natAbs-zero}
-use Rattle.whole.proofs.Divide.{natAbs-rem, quot-neg}
 
 -- ---- |x - y| by the signs of the two
 pub apart-below : (x y : ℤ) → x <ℤ pos 0 → y <ℤ pos 0 → (natAbs x - natAbs y) + (natAbs y - natAbs x) ≡ natAbs (x -ℤ y)

@@ -1,6 +1,7 @@
 -- What the mended rules are made of: the class of a number modulo a natural number, and the exact one, stand for what they should.
 use mathlib.Core.Path.{_≡_, refl, sym, _∙_, subst}
 use mathlib.Core.Bool.{Bool, true, false}
+use mathlib.Core.Logic.{_↔_}
 use Prim.Native.Nat.{ℕ}
 use lib.IntN.{ℤ, pos}
 use mir.Syntax.{Width}
@@ -9,18 +10,19 @@ use Rattle.whole.specs.Choice.{pick}
 use Rattle.whole.specs.Range.{fits?}
 use Rattle.whole.specs.Divides.{Cong, floorRem}
 use Rattle.whole.specs.Exact.{exactly}
-use Rattle.whole.specs.declared.Exact.the-variants as exact
-use Rattle.whole.proofs.Decides.{branch, fits-test, eqb-test, is-fit, is-true}
+use Rattle.whole.specs.declared.Exact.the-variants as exacts
+use Rattle.whole.proofs.Decides.{branch, fits-test, eqb-test, is-fit, not-beyond}
 use Rattle.congruence.specs.Set.{cong, top, bottom, _∈_, Proper}
+use Rattle.congruence.specs.Meaning.{Exactly, exact, over}
 use Rattle.congruence.specs.Mended.{resultOf, classOf, onlyOf, exactOf}
-use Rattle.congruence.proofs.Sets.{none, all, reduced-in, reduced-out, reduced-proper, top-proper, bottom-proper, single-proper, alone-in, alone-out, at-0-equal, equal-at-0}
+use Rattle.congruence.proofs.Sets.{all, reduced-in, reduced-out, reduced-proper, top-proper, bottom-proper, single-proper, alone-in, alone-out, at-0-equal, equal-at-0}
 
 module _ (w : Width) (z : ℤ) (m : ℕ) where
   pub class-is : classOf w z m ≡ pick (fits? w (pos m)) (cong (floorRem z (pos m)) (pos m)) top
   unfolding classOf resultOf exactly
   class-is = go (fits? w (pos m))
     where
-      go : (t : Bool) → resultOf (exact.Is z) (pick t (exact.Is (pos m)) exact.DoesNotFit) top ≡ pick t (cong (floorRem z (pos m)) (pos m)) top
+      go : (t : Bool) → resultOf (exacts.Is z) (pick t (exacts.Is (pos m)) exacts.DoesNotFit) top ≡ pick t (cong (floorRem z (pos m)) (pos m)) top
       go true = refl
       go false = refl
 
@@ -42,27 +44,21 @@ module _ (w : Width) (z : ℤ) (m : ℕ) where
   unfolding onlyOf exactly
   only-is = go (fits? w z)
     where
-      go : (t : Bool) → onlyOf (pick t (exact.Is z) exact.DoesNotFit) ≡ pick t (cong z (pos 0)) bottom
+      go : (t : Bool) → onlyOf (pick t (exacts.Is z) exacts.DoesNotFit) ≡ pick t (cong z (pos 0)) bottom
       go true = refl
       go false = refl
 
-  only-in : SFits w z → (x : ℤ) → x ≡ z → x ∈ onlyOf (exactly w z)
-  only-in f x e = subst (λ t. x ∈ t) (sym (only-is ∙ rw (is-fit f) refl)) (subst (λ t. t ∈ cong z (pos 0)) (sym e) (alone-in z))
-
-  only-out : (x : ℤ) → x ∈ onlyOf (exactly w z) → x ≡ z
-  only-out x h = branch (fits-test w z) (λ t. x ∈ t → x ≡ z) (λ f k. alone-out z x k) (λ b k. absurd (none x k)) (subst (λ t. x ∈ t) only-is h)
-
-  pub exact-in : (m ≡ 0 → SFits w z) → (x : ℤ) → Cong m x z → x ∈ exactOf w z m
+  -- the numbers that differ from z by a multiple of m, or that z alone doesn't fit
+  pub exact-right : (R : ℤ → Type 0) → ((x : ℤ) → R x ↔ Cong m x z) → SFits w (pos m) → Exactly w R (exactOf w z m)
   unfolding exactOf
-  exact-in f x h = branch (eqb-test m 0) (λ t. x ∈ t) (λ e. only-in (f e) x (equal-at-0 x z (subst (λ t. Cong t x z) e h))) (λ n. class-in x h)
-
-  pub exact-out : SFits w (pos m) → (x : ℤ) → x ∈ exactOf w z m → Cong m x z
-  unfolding exactOf
-  exact-out f x = branch (eqb-test m 0) (λ t. x ∈ t → Cong m x z) (λ e h. subst (λ t. Cong t x z) (sym e) (at-0-equal x z (only-out x h))) (λ n h. class-out f x h)
-
-  pub exact-over : m ≡ 0 → fits? w z ≡ false → exactOf w z m ≡ bottom
-  unfolding exactOf
-  exact-over e f = rw (is-true (eqb-test m 0) (λ n. n e)) (only-is ∙ rw f refl)
+  exact-right R k g = branch (eqb-test m 0) (Exactly w R)
+      (λ e. rw only-is (branch (fits-test w z) (Exactly w R)
+      (λ f. exact (λ x. (λ h. one e x .1 (alone-out z x h), λ r. subst (λ t. t ∈ cong z (pos 0)) (sym (one e x .0 r)) (alone-in z))))
+      (λ b. over z (λ f. not-beyond f b) (one e) refl)))
+      (λ n. exact (λ x. (λ h. k x .1 (class-out g x h), λ r. class-in x (k x .0 r))))
+    where
+      one : m ≡ 0 → (x : ℤ) → R x ↔ (x ≡ z)
+      one e x = (λ r. equal-at-0 x z (subst (λ t. Cong t x z) e (k x .0 r)), λ i. k x .1 (subst (λ t. Cong t x z) (sym e) (at-0-equal x z i)))
 
   pub exact-proper : Proper w (exactOf w z m)
   unfolding exactOf

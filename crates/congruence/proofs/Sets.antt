@@ -12,7 +12,7 @@ use mir.Val.{SFits}
 use Rattle.whole.specs.Divides.{Cong, floorRem}
 use Rattle.whole.proofs.Linear.{ints, wholes, read, abs}
 use Rattle.whole.proofs.Fits.{machine, range, zero-fits}
-use Rattle.whole.proofs.Decides.{Decides, eq-test, lt-test, fits-test, Beyond, not-beyond, both, either, weaken, is-true, is-false, yes, branch}
+use Rattle.whole.proofs.Decides.{Decides, eq-test, lt-test, fits-test, Beyond, not-beyond, both, either, weaken, is-true, is-false, branch}
 use Rattle.whole.proofs.Divides.{zero-∣}
 use Rattle.whole.proofs.Congruence.{Cong-refl, Cong-sym, Cong-trans}
 use Rattle.whole.proofs.Floor.{floor-low, floor-high, floor-class, floor-zero, floor-only}
@@ -163,33 +163,41 @@ module _ (a : Congruence) where
   form-out x = branch (bottom-test a) (λ t. x ∈ t → x ∈ a) (λ e h. absurd (none x h))
       (λ n h. record { some = is-false (bottom-test a) n; class = Cong-trans x (floorRem c m) c (h .class) (floor-class c m) })
 
-  pub domain-test : Decides ((m ≡ pos 0) ⊎ (((pos 0 <ℤ m) × (c <ℤ m)) ⊎ (a ≡ bottom))) ((m ≢ pos 0) × (((m ≤ℤ pos 0) ⊎ (m ≤ℤ c)) × (a ≢ bottom))) (domain? a)
+  pub value-test : Decides (Value a) (Value a → ⊥) (domain? a)
   unfolding domain?
-  domain-test = either (eq-test m (pos 0)) (either (both (lt-test (pos 0) m) (lt-test c m)) (bottom-test a))
-
-  pub domain-positive : domain? a ≡ true → pos 0 ≤ℤ m
-  domain-positive h = go (yes domain-test h)
+  value-test = weaken there apart (either (eq-test m (pos 0)) (either (both (lt-test (pos 0) m) (lt-test c m)) (bottom-test a)))
     where
-      go : (m ≡ pos 0) ⊎ (((pos 0 <ℤ m) × (c <ℤ m)) ⊎ (a ≡ bottom)) → pos 0 ≤ℤ m
-      go (inl e) = omega ints
-      go (inr (inl p)) = omega ints
-      go (inr (inr e)) = let i : m ≡ pos 1 = ap (λ t. t .modulus) e in omega ints
+      there : (m ≡ pos 0) ⊎ (((pos 0 <ℤ m) × (c <ℤ m)) ⊎ (a ≡ bottom)) → Value a
+      there (inl e) = alone e
+      there (inr (inl (h, k))) = spaced h k
+      there (inr (inr e)) = empty e
 
-  pub form-canonical : domain? a ≡ true → Canonical (form a)
+      apart : (m ≢ pos 0) × (((m ≤ℤ pos 0) ⊎ (m ≤ℤ c)) × (a ≢ bottom)) → Value a → ⊥
+      apart (f, (g, h)) (alone e) = f e
+      apart (f, (inl i, h)) (spaced k l) = omega ints
+      apart (f, (inr i, h)) (spaced k l) = omega ints
+      apart (f, (g, h)) (empty e) = h e
+
+  pub value-positive : Value a → pos 0 ≤ℤ m
+  value-positive (alone e) = omega ints
+  value-positive (spaced h k) = omega ints
+  value-positive (empty e) = let i : m ≡ pos 1 = ap (λ t. t .modulus) e in omega ints
+
+  pub form-canonical : Value a → Canonical (form a)
   unfolding form
-  form-canonical h = branch (bottom-test a) Canonical (λ e. nothing refl) (λ n. go m (domain-positive h))
+  form-canonical h = branch (bottom-test a) Canonical (λ e. nothing refl) (λ n. go m (value-positive h))
     where
       go : (k : ℤ) → pos 0 ≤ℤ k → Canonical (cong (floorRem c k) k)
       go (pos k) l = reduced-canonical c k
       go (negsuc k) l = absurd (l .le)
 
+  pub canonical-value : Canonical a → Value a
+  canonical-value (single e) = alone e
+  canonical-value (nothing e) = empty e
+  canonical-value (reduced h k) = spaced (omega ints) k
+
   pub canonical-domain : Canonical a → domain? a ≡ true
-  canonical-domain h = is-true domain-test (go h)
-    where
-      go : Canonical a → (m ≢ pos 0) × (((m ≤ℤ pos 0) ⊎ (m ≤ℤ c)) × (a ≢ bottom)) → ⊥
-      go (single e) f = f .0 e
-      go (nothing e) f = f .1 .1 e
-      go (reduced l k) f = elim (f .1 .0) [ inl i ↦ omega ints | inr i ↦ omega ints ]
+  canonical-domain h = is-true value-test (λ f. f (canonical-value h))
 
   pub form-is : Canonical a → form a ≡ a
   unfolding form
@@ -202,50 +210,38 @@ module _ (a : Congruence) where
 
   -- a canonical value is bottom or has a modulus from 0 up
   pub canonical-positive : Canonical a → pos 0 ≤ℤ m
-  canonical-positive h = domain-positive (canonical-domain h)
+  canonical-positive h = value-positive (canonical-value h)
 
   pub canonical-modulus : Canonical a → pos (natAbs m) ≡ m
   canonical-modulus h = let l = canonical-positive h in omega (ints, abs m)
 
-  pub form-proper : (w : Width) → domain? a ≡ true → SFits w c → SFits w m → Proper w (form a)
+  pub form-modulus : form a .modulus ≡ m
   unfolding form
-  form-proper w h f g = branch (bottom-test a) (Proper w) (λ e. bottom-proper w) (λ n. go m (domain-positive h) g)
-    where
-      go : (k : ℤ) → pos 0 ≤ℤ k → SFits w k → Proper w (cong (floorRem c k) k)
-      go (pos k) l g = reduced-proper w c k (λ e. f) g
-      go (negsuc k) l g = absurd (l .le)
+  form-modulus = branch (bottom-test a) (λ (t : Congruence). t .modulus ≡ m) (λ e. sym (ap (λ t. t .modulus) e)) (λ n. refl)
 
 -- ---- the domain of a width
 
 module _ (w : Width) (a : Congruence) where
-  -- a canonical value of the width is one of the domain, and so is a value whose form is asked for
-  pub proper-domain : Proper w a → InDomain w a
-  proper-domain p = record { value = go (p .canonical); constant-fits = p .constant-fits; modulus-fits = p .modulus-fits }
-    where
-      go : Canonical a → Value a
-      go (single e) = alone e
-      go (nothing e) = empty e
-      go (reduced h k) = spaced (omega ints) k
-
   pub domain-at-test : Decides (InDomain w a) (InDomain w a → ⊥) (domainAt? w a)
   unfolding domainAt?
-  domain-at-test = weaken there apart (both (domain-test a) (both (fits-test w (a .constant)) (fits-test w (a .modulus))))
+  domain-at-test = weaken there apart (both (value-test a) (both (fits-test w (a .constant)) (fits-test w (a .modulus))))
     where
-      there : ((a .modulus ≡ pos 0) ⊎ (((pos 0 <ℤ a .modulus) × (a .constant <ℤ a .modulus)) ⊎ (a ≡ bottom))) × (SFits w (a .constant) × SFits w (a .modulus)) → InDomain w a
-      there (v, (f, g)) = record { value = go v; constant-fits = f; modulus-fits = g }
-        where
-          go : (a .modulus ≡ pos 0) ⊎ (((pos 0 <ℤ a .modulus) × (a .constant <ℤ a .modulus)) ⊎ (a ≡ bottom)) → Value a
-          go (inl e) = alone e
-          go (inr (inl (h, k))) = spaced h k
-          go (inr (inr e)) = empty e
+      there : Value a × (SFits w (a .constant) × SFits w (a .modulus)) → InDomain w a
+      there (v, (f, g)) = record { value = v; constant-fits = f; modulus-fits = g }
 
-      not-value : (a .modulus ≢ pos 0) × (((a .modulus ≤ℤ pos 0) ⊎ (a .modulus ≤ℤ a .constant)) × (a ≢ bottom)) → Value a → ⊥
-      not-value (f, (g, h)) (alone e) = f e
-      not-value (f, (inl i, h)) (spaced k l) = omega ints
-      not-value (f, (inr i, h)) (spaced k l) = omega ints
-      not-value (f, (g, h)) (empty e) = h e
-
-      apart : ((a .modulus ≢ pos 0) × (((a .modulus ≤ℤ pos 0) ⊎ (a .modulus ≤ℤ a .constant)) × (a ≢ bottom))) ⊎ (Beyond w (a .constant) ⊎ Beyond w (a .modulus)) → InDomain w a → ⊥
-      apart (inl f) d = not-value f (d .value)
+      apart : (Value a → ⊥) ⊎ (Beyond w (a .constant) ⊎ Beyond w (a .modulus)) → InDomain w a → ⊥
+      apart (inl f) d = f (d .value)
       apart (inr (inl f)) d = not-beyond (d .constant-fits) f
       apart (inr (inr f)) d = not-beyond (d .modulus-fits) f
+
+  -- the form of a value of it is a canonical value of the width, and such a value is in it
+  pub form-proper : InDomain w a → Proper w (form a)
+  unfolding form
+  form-proper d = branch (bottom-test a) (Proper w) (λ e. bottom-proper w) (λ n. go (a .modulus) (value-positive a (d .value)) (d .modulus-fits))
+    where
+      go : (k : ℤ) → pos 0 ≤ℤ k → SFits w k → Proper w (cong (floorRem (a .constant) k) k)
+      go (pos k) l g = reduced-proper w (a .constant) k (λ e. d .constant-fits) g
+      go (negsuc k) l g = absurd (l .le)
+
+  pub proper-domain : Proper w a → InDomain w a
+  proper-domain p = record { value = canonical-value a (p .canonical); constant-fits = p .constant-fits; modulus-fits = p .modulus-fits }

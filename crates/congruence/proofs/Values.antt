@@ -9,8 +9,10 @@ use mir.Val.{SFits, toZ, ofZ}
 use mir.Facts.{toZ-ofZ}
 use Rattle.whole.specs.Test.{_≟_}
 use Rattle.whole.proofs.Fits.{machine, zero-fits}
-use Rattle.whole.proofs.Flags.{bools, eq-yes, eq-no, eq-is}
+use Rattle.whole.proofs.Flags.{bools, eq-yes, eq-no-64, eq-is}
+use Rattle.refusal.specs.Answer.{Answer, is}
 use Rattle.congruence.specs.declared.Congruence.{Congruence}
+use Rattle.congruence.specs.Answer.{within}
 use Rattle.congruence.specs.Set.{cong, bottom?, domain?, domainAt?, singles?, form}
 use Rattle.congruence.specs.Numbers.{divides?}
 use Rattle.congruence.specs.Ported as ported
@@ -52,9 +54,9 @@ pub apart-told : (a b : Congruence) (r t : Bool) → r ≡ mended.apart? a b →
 apart-told a b r t p q = sym p ∙ q
 
 -- what an operation answers, by what its calls ensure: the test of the domain, the two canonical forms and the rule
-pub framed : {A B : Type 0} (frame : Bool → A → B) (rule : Congruence → Congruence → A) {a b x y : Congruence} {t s : Bool} {v : A} {r : B} →
-    r ≡ frame t v → t ≡ s → v ≡ rule x y → x ≡ a → y ≡ b → r ≡ frame s (rule a b)
-framed frame rule h p q i j = h ∙ ap₂ frame p (q ∙ ap₂ rule i j)
+pub framed : {A : Type 0} (rule : Congruence → Congruence → A) {a b x y : Congruence} {t s : Bool} {v : A} {r : Answer A} →
+    r ≡ within t (is v) → t ≡ s → v ≡ rule x y → x ≡ a → y ≡ b → r ≡ within s (is (rule a b))
+framed rule h p q i j = h ∙ ap₂ (λ s v. within s (is v)) p (q ∙ ap₂ rule i j)
 
 -- a comparison the other way round
 pub turned : (w : Width) (test : ℤ → ℤ → Bool) (a b : Congruence) → mended.onForms w (mended.comparison test) a b ≡ mended.onForms w (mended.comparison (λ x y. test y x)) b a
@@ -96,9 +98,6 @@ or-on r s t h e = rw h e
 pub equal-bits : (x y : ℤ) → ofZ w64 x ≡ ofZ w64 y → SFits w64 x → SFits w64 y → (x ≟ y) ≡ true
 equal-bits x y = eq-yes {w = w64} x y
 
-pub other-bits : (x y : ℤ) → (ofZ w64 x ≡ ofZ w64 y → ⊥) → (x ≟ y) ≡ false
-other-bits = eq-no w64
-
 pub differ-is : (x y : ℤ) (k n : ℕ) → k ≡ ofZ w64 x → n ≡ ofZ w64 y → SFits w64 x → SFits w64 y → not (eqb k n) ≡ not (x ≟ y)
 differ-is x y k n p q f g = ap not (eq-is x y k n p q f g)
 
@@ -108,4 +107,4 @@ fits-0 = zero-fits
 pub fits-1 : SFits w64 (pos 1)
 fits-1 = omega machine
 
-pub ruleset values = (bottom-told, domain-told, domain-at-told, both-told, either-told, built, and-is, and-off, or-is, or-on, not-on, not-off, equal-bits, other-bits, differ-is, fits-0, fits-1, bools)
+pub ruleset values = (bottom-told, domain-told, domain-at-told, both-told, either-told, built, and-is, and-off, or-is, or-on, not-on, not-off, equal-bits, eq-no-64, differ-is, fits-0, fits-1, bools)

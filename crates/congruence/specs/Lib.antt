@@ -3,3 +3,4 @@ pub mod Answer
 pub mod Numbers
 pub mod Mended
 pub mod Ported
+pub mod Meaning

@@ -14,13 +14,11 @@ use Rattle.whole.specs.declared.Exact.{Exact}
 use Rattle.whole.specs.declared.Exact.the-variants as exact
 use Rattle.whole.specs.declared.Order.{Order}
 use Rattle.whole.specs.declared.Order.the-variants.{Less, Equal, Greater, None}
+use Rattle.refusal.specs.Answer.{Answer, is}
 use Rattle.congruence.specs.declared.Congruence.{Congruence}
-use Rattle.congruence.specs.declared.CongruenceAnswer.{CongruenceAnswer}
-use Rattle.congruence.specs.declared.TruthAnswer.{TruthAnswer}
-use Rattle.congruence.specs.declared.OrderAnswer.{OrderAnswer}
 use Rattle.congruence.specs.Set.{cong, top, bottom, bottom?, domainAt?, singles?, form}
 use Rattle.congruence.specs.Numbers.{absThen, alike?, formula, divides?}
-use Rattle.congruence.specs.Answer.{valued, truthful, ranked}
+use Rattle.congruence.specs.Answer.{within}
 
 -- ---- what the rules are made of
 
@@ -131,54 +129,54 @@ comparison test a b = pick (singles? a b) (cong (truth (test (a .constant) (b .c
 
 -- ---- the operations: outside the domain of the width each is refused by 1, and values of it are first made canonical
 
-abbrev pub onForm : Width → (Congruence → Congruence) → Congruence → CongruenceAnswer
-onForm w f a = valued (domainAt? w a) (f (form a))
+abbrev pub onForm : Width → (Congruence → Congruence) → Congruence → Answer Congruence
+onForm w f a = within (domainAt? w a) (is (f (form a)))
 
-abbrev pub onForms : Width → (Congruence → Congruence → Congruence) → Congruence → Congruence → CongruenceAnswer
-onForms w f a b = valued (domainAt? w a && domainAt? w b) (f (form a) (form b))
+abbrev pub onForms : {A : Type 0} → Width → (Congruence → Congruence → A) → Congruence → Congruence → Answer A
+onForms w f a b = within (domainAt? w a && domainAt? w b) (is (f (form a) (form b)))
 
-abbrev pub neg : Width → Congruence → CongruenceAnswer
+abbrev pub neg : Width → Congruence → Answer Congruence
 neg w = onForm w (negative w)
 
-abbrev pub add : Width → Congruence → Congruence → CongruenceAnswer
+abbrev pub add : Width → Congruence → Congruence → Answer Congruence
 add w = onForms w (sum w)
 
-abbrev pub sub : Width → Congruence → Congruence → CongruenceAnswer
+abbrev pub sub : Width → Congruence → Congruence → Answer Congruence
 sub w = onForms w (difference w)
 
-abbrev pub mul : Width → Congruence → Congruence → CongruenceAnswer
+abbrev pub mul : Width → Congruence → Congruence → Answer Congruence
 mul w = onForms w (product w)
 
-abbrev pub div : Width → Congruence → Congruence → CongruenceAnswer
+abbrev pub div : Width → Congruence → Congruence → Answer Congruence
 div w = onForms w (quotient w)
 
-abbrev pub join : Width → Congruence → Congruence → CongruenceAnswer
+abbrev pub join : Width → Congruence → Congruence → Answer Congruence
 join w = onForms w (joint w)
 
-abbrev pub meet : Width → Congruence → Congruence → CongruenceAnswer
+abbrev pub meet : Width → Congruence → Congruence → Answer Congruence
 meet w = onForms w (common w)
 
 -- of the new value and the previous one
-abbrev pub widen : Width → Congruence → Congruence → CongruenceAnswer
+abbrev pub widen : Width → Congruence → Congruence → Answer Congruence
 widen = join
 
-abbrev pub disjoint : Width → Congruence → Congruence → TruthAnswer
-disjoint w a b = truthful (domainAt? w a && domainAt? w b) (apart? (form a) (form b))
+abbrev pub disjoint : Width → Congruence → Congruence → Answer Bool
+disjoint w = onForms w apart?
 
-abbrev pub partialCmp : Width → Congruence → Congruence → OrderAnswer
-partialCmp w a b = ranked (domainAt? w a && domainAt? w b) (inclusion (form a) (form b))
+abbrev pub partialCmp : Width → Congruence → Congruence → Answer Order
+partialCmp w = onForms w inclusion
 
-abbrev pub equals : Width → Congruence → Congruence → CongruenceAnswer
+abbrev pub equals : Width → Congruence → Congruence → Answer Congruence
 equals w = onForms w equality
 
-abbrev pub less : Width → Congruence → Congruence → CongruenceAnswer
+abbrev pub less : Width → Congruence → Congruence → Answer Congruence
 less w = onForms w (comparison _<?_)
 
-abbrev pub greater : Width → Congruence → Congruence → CongruenceAnswer
+abbrev pub greater : Width → Congruence → Congruence → Answer Congruence
 greater w = onForms w (comparison (λ x y. y <? x))
 
-abbrev pub lessOrEqual : Width → Congruence → Congruence → CongruenceAnswer
+abbrev pub lessOrEqual : Width → Congruence → Congruence → Answer Congruence
 lessOrEqual w = onForms w (comparison _≤?_)
 
-abbrev pub greaterOrEqual : Width → Congruence → Congruence → CongruenceAnswer
+abbrev pub greaterOrEqual : Width → Congruence → Congruence → Answer Congruence
 greaterOrEqual w = onForms w (comparison (λ x y. y ≤? x))

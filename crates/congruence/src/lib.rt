@@ -18,6 +18,7 @@ ghost use mathlib.Core.Path.{_≡_};
 ghost use mathlib.Core.Bool.{_&&_, _||_};
 ghost use Rattle.congruence.specs.Set.{cong, bottom?, domain?, singles?, form};
 ghost use Rattle.whole.specs.Sized.{widthOf};
+ghost use Rattle.congruence.specs.Answer.{told};
 ghost use Rattle.congruence.specs.Numbers.{formula, divides?};
 ghost use Rattle.congruence.specs.Ported as spec;
 
@@ -67,7 +68,7 @@ impl Congruence {
 
     // (c, m): m < 0 is refused by 1, m > 0 with c >= m by 3.
     pub fn from(c: i64, m: i64) -> CongruenceAnswer
-        ensures { λ r. ⌜ r ≡ spec.from c m ⌝ }
+        ensures { λ r. ⌜ told r ≡ spec.from c m ⌝ }
     {
         if m < 0 {
             return CongruenceAnswer::Refused(Refusal::NotInDomain);
@@ -116,7 +117,7 @@ const TRUE: Congruence = Congruence {
 
 // The assertion of the Rust's `from`: m = 0 or c < m.
 fn held(c: i64, m: i64) -> CongruenceAnswer
-    ensures { λ r. ⌜ r ≡ spec.held c m ⌝ }
+    ensures { λ r. ⌜ told r ≡ spec.held c m ⌝ }
 {
     if m == 0 {
         return CongruenceAnswer::Is(Congruence {

@@ -28,8 +28,9 @@ use whole::gcd;
 use whole::lcm;
 use whole::remainder;
 ghost use mathlib.Core.Path.{_≡_};
-ghost use Rattle.congruence.specs.declared.CongruenceAnswer.the-variants.{Is};
+ghost use Rattle.refusal.specs.Answer.{is};
 ghost use Rattle.congruence.specs.Set.{cong, bottom};
+ghost use Rattle.congruence.specs.Answer.{told, truthTold, orderTold, singleTold};
 ghost use Rattle.congruence.specs.Ported as spec;
 
 // ---- what the operations are made of
@@ -50,7 +51,7 @@ fn normalize(c: i64, m: i64) -> Congruence
 }
 
 fn made(c: Exact, m: Exact) -> CongruenceAnswer
-    ensures { λ r. ⌜ r ≡ spec.made c m ⌝ }
+    ensures { λ r. ⌜ told r ≡ spec.made c m ⌝ }
 {
     match m {
         Exact::DoesNotFit => CongruenceAnswer::Refused(Refusal::DoesNotFit),
@@ -62,7 +63,7 @@ fn made(c: Exact, m: Exact) -> CongruenceAnswer
 }
 
 fn asserted(c: Exact, m: Exact) -> CongruenceAnswer
-    ensures { λ r. ⌜ r ≡ spec.asserted c m ⌝ }
+    ensures { λ r. ⌜ told r ≡ spec.asserted c m ⌝ }
 {
     match c {
         Exact::DoesNotFit => CongruenceAnswer::Refused(Refusal::DoesNotFit),
@@ -75,7 +76,7 @@ fn asserted(c: Exact, m: Exact) -> CongruenceAnswer
 
 // d % g != 0.
 fn indivisible(d: Exact, g: Exact) -> TruthAnswer
-    ensures { λ r. ⌜ r ≡ spec.indivisible d g ⌝ }
+    ensures { λ r. ⌜ truthTold r ≡ spec.indivisible d g ⌝ }
 {
     match g {
         Exact::DoesNotFit => TruthAnswer::Refused(Refusal::DoesNotFit),
@@ -87,7 +88,7 @@ fn indivisible(d: Exact, g: Exact) -> TruthAnswer
 }
 
 fn on_truth(t: TruthAnswer, yes: CongruenceAnswer, no: CongruenceAnswer) -> CongruenceAnswer
-    ensures { λ r. ⌜ r ≡ spec.onTruth t yes no ⌝ }
+    ensures { λ r. ⌜ told r ≡ spec.onTruth (truthTold t) (told yes) (told no) ⌝ }
 {
     match t {
         TruthAnswer::Refused(r) => CongruenceAnswer::Refused(r),
@@ -161,7 +162,7 @@ fn ordered(a: Congruence, b: Congruence) -> Order
 }
 
 pub fn partial_cmp(a: Congruence, b: Congruence) -> OrderAnswer
-    ensures { λ r. ⌜ r ≡ spec.partialCmp a b ⌝ }
+    ensures { λ r. ⌜ orderTold r ≡ spec.partialCmp a b ⌝ }
 {
     if both_in_domain(a, b) {
         OrderAnswer::Is(ordered(a, b))
@@ -171,7 +172,7 @@ pub fn partial_cmp(a: Congruence, b: Congruence) -> OrderAnswer
 }
 
 fn joined(a: Congruence, b: Congruence) -> CongruenceAnswer
-    ensures { λ r. ⌜ r ≡ spec.joined a b ⌝ }
+    ensures { λ r. ⌜ told r ≡ spec.joined a b ⌝ }
 {
     if a.is_bottom() {
         return CongruenceAnswer::Is(b);
@@ -185,7 +186,7 @@ fn joined(a: Congruence, b: Congruence) -> CongruenceAnswer
 }
 
 pub fn join(a: Congruence, b: Congruence) -> CongruenceAnswer
-    ensures { λ r. ⌜ r ≡ spec.join a b ⌝ }
+    ensures { λ r. ⌜ told r ≡ spec.join a b ⌝ }
 {
     if both_in_domain(a, b) {
         joined(a, b)
@@ -195,7 +196,7 @@ pub fn join(a: Congruence, b: Congruence) -> CongruenceAnswer
 }
 
 fn reduced(c: i64, m: Exact) -> CongruenceAnswer
-    ensures { λ r. ⌜ r ≡ spec.reduced c m ⌝ }
+    ensures { λ r. ⌜ told r ≡ spec.reduced c m ⌝ }
 {
     match m {
         Exact::DoesNotFit => CongruenceAnswer::Refused(Refusal::DoesNotFit),
@@ -205,7 +206,7 @@ fn reduced(c: i64, m: Exact) -> CongruenceAnswer
 
 // The left constant modulo the lcm, unless the classes are apart. The lcm isn't worked out where they are.
 fn met_unless(apart: TruthAnswer, a: Congruence, b: Congruence) -> CongruenceAnswer
-    ensures { λ r. ⌜ r ≡ spec.onTruth apart (Is bottom) (spec.reduced (a .constant) (spec.lcmOf (a .modulus) (b .modulus))) ⌝ }
+    ensures { λ r. ⌜ told r ≡ spec.onTruth (truthTold apart) (is bottom) (spec.reduced (a .constant) (spec.lcmOf (a .modulus) (b .modulus))) ⌝ }
 {
     match apart {
         TruthAnswer::Refused(r) => CongruenceAnswer::Refused(r),
@@ -221,7 +222,7 @@ fn met_unless(apart: TruthAnswer, a: Congruence, b: Congruence) -> CongruenceAns
 
 // Two classes: apart if the gcd doesn't divide the difference of the constants.
 fn met_classes(a: Congruence, b: Congruence) -> CongruenceAnswer
-    ensures { λ r. ⌜ r ≡ spec.metClasses a b ⌝ }
+    ensures { λ r. ⌜ told r ≡ spec.metClasses a b ⌝ }
 {
     let g = gcd(a.modulus, b.modulus);
     let d = abs_then(Size::B64, exact_sub(a.constant, b.constant));
@@ -229,7 +230,7 @@ fn met_classes(a: Congruence, b: Congruence) -> CongruenceAnswer
 }
 
 fn met(a: Congruence, b: Congruence) -> CongruenceAnswer
-    ensures { λ r. ⌜ r ≡ spec.met a b ⌝ }
+    ensures { λ r. ⌜ told r ≡ spec.met a b ⌝ }
 {
     let nothing = CongruenceAnswer::Is(Congruence::BOTTOM);
     if either_bottom(a, b) {
@@ -245,7 +246,7 @@ fn met(a: Congruence, b: Congruence) -> CongruenceAnswer
 }
 
 pub fn meet(a: Congruence, b: Congruence) -> CongruenceAnswer
-    ensures { λ r. ⌜ r ≡ spec.meet a b ⌝ }
+    ensures { λ r. ⌜ told r ≡ spec.meet a b ⌝ }
 {
     if both_in_domain(a, b) {
         met(a, b)
@@ -256,7 +257,7 @@ pub fn meet(a: Congruence, b: Congruence) -> CongruenceAnswer
 
 // The default: the new value alone.
 pub fn widen(new: Congruence, previous: Congruence) -> CongruenceAnswer
-    ensures { λ r. ⌜ r ≡ spec.widen new previous ⌝ }
+    ensures { λ r. ⌜ told r ≡ spec.widen new previous ⌝ }
 {
     if both_in_domain(new, previous) {
         CongruenceAnswer::Is(new)
@@ -276,7 +277,7 @@ fn narrowed(new: Congruence, previous: Congruence) -> Congruence
 }
 
 pub fn narrow(new: Congruence, previous: Congruence) -> CongruenceAnswer
-    ensures { λ r. ⌜ r ≡ spec.narrow new previous ⌝ }
+    ensures { λ r. ⌜ told r ≡ spec.narrow new previous ⌝ }
 {
     if both_in_domain(new, previous) {
         CongruenceAnswer::Is(narrowed(new, previous))
@@ -288,7 +289,7 @@ pub fn narrow(new: Congruence, previous: Congruence) -> CongruenceAnswer
 // ---- arithmetic
 
 fn negated(a: Congruence) -> CongruenceAnswer
-    ensures { λ r. ⌜ r ≡ spec.negated a ⌝ }
+    ensures { λ r. ⌜ told r ≡ spec.negated a ⌝ }
 {
     if a.is_bottom() {
         return CongruenceAnswer::Is(a);
@@ -297,7 +298,7 @@ fn negated(a: Congruence) -> CongruenceAnswer
 }
 
 pub fn neg(a: Congruence) -> CongruenceAnswer
-    ensures { λ r. ⌜ r ≡ spec.neg a ⌝ }
+    ensures { λ r. ⌜ told r ≡ spec.neg a ⌝ }
 {
     if a.in_domain() {
         negated(a)
@@ -307,7 +308,7 @@ pub fn neg(a: Congruence) -> CongruenceAnswer
 }
 
 fn added(a: Congruence, b: Congruence) -> CongruenceAnswer
-    ensures { λ r. ⌜ r ≡ spec.added a b ⌝ }
+    ensures { λ r. ⌜ told r ≡ spec.added a b ⌝ }
 {
     if either_bottom(a, b) {
         return CongruenceAnswer::Is(Congruence::BOTTOM);
@@ -317,7 +318,7 @@ fn added(a: Congruence, b: Congruence) -> CongruenceAnswer
 }
 
 pub fn add(a: Congruence, b: Congruence) -> CongruenceAnswer
-    ensures { λ r. ⌜ r ≡ spec.add a b ⌝ }
+    ensures { λ r. ⌜ told r ≡ spec.add a b ⌝ }
 {
     if both_in_domain(a, b) {
         added(a, b)
@@ -328,7 +329,7 @@ pub fn add(a: Congruence, b: Congruence) -> CongruenceAnswer
 
 // a + (-b): the negation goes first, even beside the bottom.
 fn subtracted(a: Congruence, b: Congruence) -> CongruenceAnswer
-    ensures { λ r. ⌜ r ≡ spec.subtracted a b ⌝ }
+    ensures { λ r. ⌜ told r ≡ spec.subtracted a b ⌝ }
 {
     match negated(b) {
         CongruenceAnswer::Is(n) => added(a, n),
@@ -337,7 +338,7 @@ fn subtracted(a: Congruence, b: Congruence) -> CongruenceAnswer
 }
 
 pub fn sub(a: Congruence, b: Congruence) -> CongruenceAnswer
-    ensures { λ r. ⌜ r ≡ spec.sub a b ⌝ }
+    ensures { λ r. ⌜ told r ≡ spec.sub a b ⌝ }
 {
     if both_in_domain(a, b) {
         subtracted(a, b)
@@ -347,7 +348,7 @@ pub fn sub(a: Congruence, b: Congruence) -> CongruenceAnswer
 }
 
 fn multiplied(a: Congruence, b: Congruence) -> CongruenceAnswer
-    ensures { λ r. ⌜ r ≡ spec.multiplied a b ⌝ }
+    ensures { λ r. ⌜ told r ≡ spec.multiplied a b ⌝ }
 {
     if either_bottom(a, b) {
         return CongruenceAnswer::Is(Congruence::BOTTOM);
@@ -357,7 +358,7 @@ fn multiplied(a: Congruence, b: Congruence) -> CongruenceAnswer
 }
 
 pub fn mul(a: Congruence, b: Congruence) -> CongruenceAnswer
-    ensures { λ r. ⌜ r ≡ spec.mul a b ⌝ }
+    ensures { λ r. ⌜ told r ≡ spec.mul a b ⌝ }
 {
     if both_in_domain(a, b) {
         multiplied(a, b)
@@ -367,7 +368,7 @@ pub fn mul(a: Congruence, b: Congruence) -> CongruenceAnswer
 }
 
 fn divided_by(a: Congruence, d: i64) -> CongruenceAnswer
-    ensures { λ r. ⌜ r ≡ spec.dividedBy a d ⌝ }
+    ensures { λ r. ⌜ told r ≡ spec.dividedBy a d ⌝ }
 {
     if divisible(a, d) {
         asserted(exact_quotient(a.constant, d), exact_quotient(a.modulus, d))
@@ -377,7 +378,7 @@ fn divided_by(a: Congruence, d: i64) -> CongruenceAnswer
 }
 
 fn divided(a: Congruence, b: Congruence) -> CongruenceAnswer
-    ensures { λ r. ⌜ r ≡ spec.divided a b ⌝ }
+    ensures { λ r. ⌜ told r ≡ spec.divided a b ⌝ }
 {
     if either_bottom(a, b) {
         return CongruenceAnswer::Is(Congruence::BOTTOM);
@@ -393,7 +394,7 @@ fn divided(a: Congruence, b: Congruence) -> CongruenceAnswer
 }
 
 pub fn div(a: Congruence, b: Congruence) -> CongruenceAnswer
-    ensures { λ r. ⌜ r ≡ spec.div a b ⌝ }
+    ensures { λ r. ⌜ told r ≡ spec.div a b ⌝ }
 {
     if both_in_domain(a, b) {
         divided(a, b)
@@ -405,7 +406,7 @@ pub fn div(a: Congruence, b: Congruence) -> CongruenceAnswer
 // ---- comparisons and logic
 
 pub fn singleton(a: Congruence) -> SingleAnswer
-    ensures { λ r. ⌜ r ≡ spec.singleton a ⌝ }
+    ensures { λ r. ⌜ singleTold r ≡ spec.singleton a ⌝ }
 {
     if !a.in_domain() {
         return SingleAnswer::Refused(Refusal::NotInDomain);
@@ -418,7 +419,7 @@ pub fn singleton(a: Congruence) -> SingleAnswer
 }
 
 fn separated(a: Congruence, b: Congruence) -> TruthAnswer
-    ensures { λ r. ⌜ r ≡ spec.separated a b ⌝ }
+    ensures { λ r. ⌜ truthTold r ≡ spec.separated a b ⌝ }
 {
     if a.modulus == 0 {
         return if b.modulus == 0 {
@@ -435,7 +436,7 @@ fn separated(a: Congruence, b: Congruence) -> TruthAnswer
 }
 
 pub fn disjoint(a: Congruence, b: Congruence) -> TruthAnswer
-    ensures { λ r. ⌜ r ≡ spec.disjoint a b ⌝ }
+    ensures { λ r. ⌜ truthTold r ≡ spec.disjoint a b ⌝ }
 {
     if both_in_domain(a, b) {
         separated(a, b)
@@ -445,7 +446,7 @@ pub fn disjoint(a: Congruence, b: Congruence) -> TruthAnswer
 }
 
 fn equated(a: Congruence, b: Congruence) -> CongruenceAnswer
-    ensures { λ r. ⌜ r ≡ spec.equated a b ⌝ }
+    ensures { λ r. ⌜ told r ≡ spec.equated a b ⌝ }
 {
     on_truth(
         separated(a, b),
@@ -467,7 +468,7 @@ fn one_number(a: Congruence, b: Congruence) -> Congruence
 }
 
 pub fn equals(a: Congruence, b: Congruence) -> CongruenceAnswer
-    ensures { λ r. ⌜ r ≡ spec.equals a b ⌝ }
+    ensures { λ r. ⌜ told r ≡ spec.equals a b ⌝ }
 {
     if both_in_domain(a, b) {
         equated(a, b)
@@ -493,7 +494,7 @@ fn conjoined(a: Congruence, b: Congruence) -> Congruence
 }
 
 pub fn logical_and(a: Congruence, b: Congruence) -> CongruenceAnswer
-    ensures { λ r. ⌜ r ≡ spec.logicalAnd a b ⌝ }
+    ensures { λ r. ⌜ told r ≡ spec.logicalAnd a b ⌝ }
 {
     if both_in_domain(a, b) {
         CongruenceAnswer::Is(conjoined(a, b))
@@ -519,7 +520,7 @@ fn disjoined(a: Congruence, b: Congruence) -> Congruence
 }
 
 pub fn logical_or(a: Congruence, b: Congruence) -> CongruenceAnswer
-    ensures { λ r. ⌜ r ≡ spec.logicalOr a b ⌝ }
+    ensures { λ r. ⌜ told r ≡ spec.logicalOr a b ⌝ }
 {
     if both_in_domain(a, b) {
         CongruenceAnswer::Is(disjoined(a, b))
@@ -541,7 +542,7 @@ fn inverted(a: Congruence) -> Congruence
 }
 
 pub fn logical_not(a: Congruence) -> CongruenceAnswer
-    ensures { λ r. ⌜ r ≡ spec.logicalNot a ⌝ }
+    ensures { λ r. ⌜ told r ≡ spec.logicalNot a ⌝ }
 {
     if a.in_domain() {
         CongruenceAnswer::Is(inverted(a))
@@ -566,7 +567,7 @@ fn compared(a: Congruence, b: Congruence) -> Order
 }
 
 pub fn strict_cmp(a: Congruence, b: Congruence) -> OrderAnswer
-    ensures { λ r. ⌜ r ≡ spec.strictCmp a b ⌝ }
+    ensures { λ r. ⌜ orderTold r ≡ spec.strictCmp a b ⌝ }
 {
     if both_in_domain(a, b) {
         OrderAnswer::Is(compared(a, b))

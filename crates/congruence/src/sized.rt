@@ -13,7 +13,8 @@ ghost use mathlib.Core.Path.{_≡_};
 ghost use mathlib.Core.Bool.{_&&_};
 ghost use Rattle.whole.specs.Range.{fits?};
 ghost use Rattle.whole.specs.Sized.{widthOf};
-ghost use Rattle.congruence.specs.Answer.{valued, truthful, ranked};
+ghost use Rattle.refusal.specs.Answer.{is};
+ghost use Rattle.congruence.specs.Answer.{told, truthTold, orderTold, within};
 ghost use Rattle.congruence.specs.Set.{domainAt?};
 ghost use Rattle.congruence.specs.Mended as spec;
 
@@ -52,7 +53,7 @@ fn both_in_domain(size: Size, a: Congruence, b: Congruence) -> bool
 
 // What is answered inside the domain; 1 outside.
 fn value_if(inside: bool, v: Congruence) -> CongruenceAnswer
-    ensures { λ r. ⌜ r ≡ valued inside v ⌝ }
+    ensures { λ r. ⌜ told r ≡ within inside (is v) ⌝ }
 {
     if inside {
         CongruenceAnswer::Is(v)
@@ -62,7 +63,7 @@ fn value_if(inside: bool, v: Congruence) -> CongruenceAnswer
 }
 
 fn truth_if(inside: bool, t: bool) -> TruthAnswer
-    ensures { λ r. ⌜ r ≡ truthful inside t ⌝ }
+    ensures { λ r. ⌜ truthTold r ≡ within inside (is t) ⌝ }
 {
     if inside {
         TruthAnswer::Is(t)
@@ -72,7 +73,7 @@ fn truth_if(inside: bool, t: bool) -> TruthAnswer
 }
 
 fn order_if(inside: bool, o: Order) -> OrderAnswer
-    ensures { λ r. ⌜ r ≡ ranked inside o ⌝ }
+    ensures { λ r. ⌜ orderTold r ≡ within inside (is o) ⌝ }
 {
     if inside {
         OrderAnswer::Is(o)
@@ -84,13 +85,13 @@ fn order_if(inside: bool, o: Order) -> OrderAnswer
 // ---- lattice
 
 pub fn disjoint(size: Size, a: Congruence, b: Congruence) -> TruthAnswer
-    ensures { λ r. ⌜ r ≡ spec.disjoint (widthOf size) a b ⌝ }
+    ensures { λ r. ⌜ truthTold r ≡ spec.disjoint (widthOf size) a b ⌝ }
 {
     truth_if(both_in_domain(size, a, b), rules::apart(form(a), form(b)))
 }
 
 pub fn partial_cmp(size: Size, a: Congruence, b: Congruence) -> OrderAnswer
-    ensures { λ r. ⌜ r ≡ spec.partialCmp (widthOf size) a b ⌝ }
+    ensures { λ r. ⌜ orderTold r ≡ spec.partialCmp (widthOf size) a b ⌝ }
 {
     order_if(
         both_in_domain(size, a, b),
@@ -99,7 +100,7 @@ pub fn partial_cmp(size: Size, a: Congruence, b: Congruence) -> OrderAnswer
 }
 
 pub fn join(size: Size, a: Congruence, b: Congruence) -> CongruenceAnswer
-    ensures { λ r. ⌜ r ≡ spec.join (widthOf size) a b ⌝ }
+    ensures { λ r. ⌜ told r ≡ spec.join (widthOf size) a b ⌝ }
 {
     value_if(
         both_in_domain(size, a, b),
@@ -108,13 +109,13 @@ pub fn join(size: Size, a: Congruence, b: Congruence) -> CongruenceAnswer
 }
 
 pub fn widen(size: Size, new: Congruence, previous: Congruence) -> CongruenceAnswer
-    ensures { λ r. ⌜ r ≡ spec.widen (widthOf size) new previous ⌝ }
+    ensures { λ r. ⌜ told r ≡ spec.widen (widthOf size) new previous ⌝ }
 {
     join(size, new, previous)
 }
 
 pub fn meet(size: Size, a: Congruence, b: Congruence) -> CongruenceAnswer
-    ensures { λ r. ⌜ r ≡ spec.meet (widthOf size) a b ⌝ }
+    ensures { λ r. ⌜ told r ≡ spec.meet (widthOf size) a b ⌝ }
 {
     value_if(
         both_in_domain(size, a, b),
@@ -125,13 +126,13 @@ pub fn meet(size: Size, a: Congruence, b: Congruence) -> CongruenceAnswer
 // ---- arithmetic
 
 pub fn neg(size: Size, a: Congruence) -> CongruenceAnswer
-    ensures { λ r. ⌜ r ≡ spec.neg (widthOf size) a ⌝ }
+    ensures { λ r. ⌜ told r ≡ spec.neg (widthOf size) a ⌝ }
 {
     value_if(in_domain(size, a), rules::negative(size, form(a)))
 }
 
 pub fn add(size: Size, a: Congruence, b: Congruence) -> CongruenceAnswer
-    ensures { λ r. ⌜ r ≡ spec.add (widthOf size) a b ⌝ }
+    ensures { λ r. ⌜ told r ≡ spec.add (widthOf size) a b ⌝ }
 {
     value_if(
         both_in_domain(size, a, b),
@@ -140,7 +141,7 @@ pub fn add(size: Size, a: Congruence, b: Congruence) -> CongruenceAnswer
 }
 
 pub fn sub(size: Size, a: Congruence, b: Congruence) -> CongruenceAnswer
-    ensures { λ r. ⌜ r ≡ spec.sub (widthOf size) a b ⌝ }
+    ensures { λ r. ⌜ told r ≡ spec.sub (widthOf size) a b ⌝ }
 {
     value_if(
         both_in_domain(size, a, b),
@@ -149,7 +150,7 @@ pub fn sub(size: Size, a: Congruence, b: Congruence) -> CongruenceAnswer
 }
 
 pub fn mul(size: Size, a: Congruence, b: Congruence) -> CongruenceAnswer
-    ensures { λ r. ⌜ r ≡ spec.mul (widthOf size) a b ⌝ }
+    ensures { λ r. ⌜ told r ≡ spec.mul (widthOf size) a b ⌝ }
 {
     value_if(
         both_in_domain(size, a, b),
@@ -158,7 +159,7 @@ pub fn mul(size: Size, a: Congruence, b: Congruence) -> CongruenceAnswer
 }
 
 pub fn div(size: Size, a: Congruence, b: Congruence) -> CongruenceAnswer
-    ensures { λ r. ⌜ r ≡ spec.div (widthOf size) a b ⌝ }
+    ensures { λ r. ⌜ told r ≡ spec.div (widthOf size) a b ⌝ }
 {
     value_if(
         both_in_domain(size, a, b),
@@ -169,7 +170,7 @@ pub fn div(size: Size, a: Congruence, b: Congruence) -> CongruenceAnswer
 // ---- comparisons
 
 pub fn equals(size: Size, a: Congruence, b: Congruence) -> CongruenceAnswer
-    ensures { λ r. ⌜ r ≡ spec.equals (widthOf size) a b ⌝ }
+    ensures { λ r. ⌜ told r ≡ spec.equals (widthOf size) a b ⌝ }
 {
     value_if(
         both_in_domain(size, a, b),
@@ -178,25 +179,25 @@ pub fn equals(size: Size, a: Congruence, b: Congruence) -> CongruenceAnswer
 }
 
 pub fn less(size: Size, a: Congruence, b: Congruence) -> CongruenceAnswer
-    ensures { λ r. ⌜ r ≡ spec.less (widthOf size) a b ⌝ }
+    ensures { λ r. ⌜ told r ≡ spec.less (widthOf size) a b ⌝ }
 {
     value_if(both_in_domain(size, a, b), rules::below(form(a), form(b)))
 }
 
 pub fn greater(size: Size, a: Congruence, b: Congruence) -> CongruenceAnswer
-    ensures { λ r. ⌜ r ≡ spec.greater (widthOf size) a b ⌝ }
+    ensures { λ r. ⌜ told r ≡ spec.greater (widthOf size) a b ⌝ }
 {
     less(size, b, a)
 }
 
 pub fn less_or_equal(size: Size, a: Congruence, b: Congruence) -> CongruenceAnswer
-    ensures { λ r. ⌜ r ≡ spec.lessOrEqual (widthOf size) a b ⌝ }
+    ensures { λ r. ⌜ told r ≡ spec.lessOrEqual (widthOf size) a b ⌝ }
 {
     value_if(both_in_domain(size, a, b), rules::at_most(form(a), form(b)))
 }
 
 pub fn greater_or_equal(size: Size, a: Congruence, b: Congruence) -> CongruenceAnswer
-    ensures { λ r. ⌜ r ≡ spec.greaterOrEqual (widthOf size) a b ⌝ }
+    ensures { λ r. ⌜ told r ≡ spec.greaterOrEqual (widthOf size) a b ⌝ }
 {
     less_or_equal(size, b, a)
 }

@@ -18,7 +18,6 @@ use Rattle.interval.specs.Set.{_⋯_, single, canonical?}
 use Rattle.interval.specs.Ported as range
 use Rattle.interval.specs.Mended as rangeMended
 use Rattle.congruence.specs.Set.{cong, top, bottom?, domain?, domainAt?, form}
-use Rattle.congruence.specs.Answer.{within, within2}
 use Rattle.congruence.specs.Numbers.{formula, gcdThen, absThen, alike?, divides?}
 use Rattle.congruence.specs.Ported as spacing
 use Rattle.congruence.specs.Mended as spacingMended
@@ -42,11 +41,11 @@ abbrev steps-14 : List Step
 steps-14 = step (pos 1) (pos 1) (pos 4) (pos 0) ∷ step (pos 0) (pos 250) (pos 0) (pos 0) ∷ step (pos 4) (pos 0) (pos 1) (pos 0) ∷ []
 
 passes-14 : checkSheet (stopping w64) steps-14 ≡ passed (shown (pos 1 ⋯ pos 4) top Positive ∷ shown (single (pos 250)) (cong (pos 250) (pos 0)) Positive ∷ shown (pos 250 ⋯ pos 1000) (cong (pos 0) (pos 250)) Positive ∷ [])
-unfolding checkFrom checkStep showOp rangeOp spacingOp signOp inputShown actionsOf actionOf operatorOf canonical? rangeMended.mul spacingMended.product spacingMended.beside spacingMended.resultOf spacingMended.over form bottom? domain? domainAt? within2 formula gcdThen exactly fits? gcd steps floorRem range.signOf range.sideSign sign.mul sign.ofNumber minℤ maxℤ _≟_ _<?_ _≤?_
+unfolding checkFrom checkStep showOp rangeOp spacingOp signOp inputShown actionsOf actionOf operatorOf canonical? rangeMended.mul spacingMended.product spacingMended.beside spacingMended.resultOf spacingMended.over form bottom? domain? domainAt? formula gcdThen exactly fits? gcd steps floorRem range.signOf range.sideSign sign.mul sign.ofNumber minℤ maxℤ _≟_ _<?_ _≤?_
 passes-14 = refl
 
 pub fourteen : Fourteen
-unfolding flat sign.mul sign.weakCmp sign.div sign.sub sign.add sign.neg signMended.weakCmp signMended.div range.weakCmp range.geBy range.neg range.rem range.remLarge range.remBy range.widen canonical? rangeMended.greaterOrEqual rangeMended.lessOrEqual rangeMended.verdict rangeMended.rem rangeMended.remWithin within within2 domain? domainAt? bottom? form floorRem _≟_ _<?_ _≤?_ maxℤ spacing.met spacing.metClasses spacing.onTruth spacing.indivisible spacing.reduced spacing.normalize spacing.separated spacing.joined spacing.made spacing.negated spacing.asserted spacing.held spacing.divided spacing.dividedBy spacing.only? absThen gcdThen exactly fits? gcd lcm steps spacingMended.common spacingMended.beside spacingMended.overlap spacingMended.found spacingMended.has? alike? spacingMended.apart? spacingMended.joint spacingMended.classOf spacingMended.resultOf spacingMended.negative spacingMended.exactOf spacingMended.quotient spacingMended.byNumber divides?
+unfolding flat sign.mul sign.weakCmp sign.div sign.sub sign.add sign.neg signMended.weakCmp signMended.div range.weakCmp range.geBy range.neg range.rem range.remLarge range.remBy range.widen canonical? rangeMended.greaterOrEqual rangeMended.lessOrEqual rangeMended.verdict rangeMended.rem rangeMended.remWithin domain? domainAt? bottom? form floorRem _≟_ _<?_ _≤?_ maxℤ spacing.met spacing.metClasses spacing.onTruth spacing.indivisible spacing.reduced spacing.normalize spacing.separated spacing.joined spacing.made spacing.negated spacing.asserted spacing.held spacing.divided spacing.dividedBy spacing.only? absThen gcdThen exactly fits? gcd lcm steps spacingMended.common spacingMended.beside spacingMended.overlap spacingMended.found spacingMended.has? alike? spacingMended.apart? spacingMended.joint spacingMended.classOf spacingMended.resultOf spacingMended.negative spacingMended.exactOf spacingMended.quotient spacingMended.byNumber divides?
 fourteen = record {
   number-1 = refl;
   number-2 = (refl, refl);

@@ -13,12 +13,10 @@ use Rattle.sign.specs.Ported as sign
 use Rattle.sign.specs.Mended as signMended
 use Rattle.interval.specs.Set.{_⋯_, top, single}
 use Rattle.refusal.specs.Answer.{is, refused}
+use Rattle.refusal.specs.Answer as answers
 use Rattle.interval.specs.Ported as range
 use Rattle.interval.specs.Mended as rangeMended
-use Rattle.congruence.specs.declared.CongruenceAnswer.the-variants.{Is}
-use Rattle.congruence.specs.declared.TruthAnswer.the-variants as truths
 use Rattle.congruence.specs.Set.{cong}
-use Rattle.congruence.specs.Answer.{congruenceOf}
 use Rattle.congruence.specs.Ported as spacing
 use Rattle.congruence.specs.Mended as spacingMended
 use Rattle.desk.specs.Answer.{Result, passedWith, checking}
@@ -42,10 +40,10 @@ pub record Fourteen : Type 0 where
   pub number-5 : (range.neg (single (least w64)) ≡ refused 2) × (range.neg (least w64 ⋯ pos 5) ≡ is (negsuc 4 ⋯ greatest w64))
   pub number-6 : range.rem (single (pos 0)) (pos 1 ⋯ pos 3) ≡ is (negsuc 1 ⋯ pos 0)
   pub number-7 : (range.rem (single (pos 7)) (top w64) ≡ refused 2) × (rangeMended.rem w64 (single (pos 7)) (top w64) ≡ is (pos 0 ⋯ greatest w64))
-  pub number-8 : (spacing.meet (cong (pos 1) (pos 2)) (cong (pos 2) (pos 3)) ≡ Is (cong (pos 1) (pos 6))) × (spacingMended.meet w64 (cong (pos 1) (pos 2)) (cong (pos 2) (pos 3)) ≡ Is (cong (pos 5) (pos 6)))
-  pub number-9 : (spacing.disjoint (cong (negsuc 0) (pos 0)) (cong (pos 2) (pos 3)) ≡ truths.Is true) × (spacingMended.disjoint w64 (cong (negsuc 0) (pos 0)) (cong (pos 2) (pos 3)) ≡ truths.Is false)
-  pub number-10 : (spacing.join (cong (pos 4) (pos 0)) (cong (pos 10) (pos 0)) ≡ Is (cong (pos 4) (pos 6))) × (spacingMended.join w64 (cong (pos 4) (pos 0)) (cong (pos 10) (pos 0)) ≡ Is (cong (pos 4) (pos 6)))
-  pub number-11 : (spacing.neg (cong (pos 1) (pos 3)) ≡ Is (cong (negsuc 0) (pos 3))) × (spacingMended.neg w64 (cong (pos 1) (pos 3)) ≡ Is (cong (pos 2) (pos 3)))
-  pub number-12 : (congruenceOf (spacing.div (cong (pos 0) (pos 6)) (cong (negsuc 1) (pos 0))) .number ≡ 3) × (spacingMended.div w64 (cong (pos 0) (pos 6)) (cong (negsuc 1) (pos 0)) ≡ Is (cong (pos 0) (pos 3)))
+  pub number-8 : (spacing.meet (cong (pos 1) (pos 2)) (cong (pos 2) (pos 3)) ≡ answers.is (cong (pos 1) (pos 6))) × (spacingMended.meet w64 (cong (pos 1) (pos 2)) (cong (pos 2) (pos 3)) ≡ answers.is (cong (pos 5) (pos 6)))
+  pub number-9 : (spacing.disjoint (cong (negsuc 0) (pos 0)) (cong (pos 2) (pos 3)) ≡ answers.is true) × (spacingMended.disjoint w64 (cong (negsuc 0) (pos 0)) (cong (pos 2) (pos 3)) ≡ answers.is false)
+  pub number-10 : (spacing.join (cong (pos 4) (pos 0)) (cong (pos 10) (pos 0)) ≡ answers.is (cong (pos 4) (pos 6))) × (spacingMended.join w64 (cong (pos 4) (pos 0)) (cong (pos 10) (pos 0)) ≡ answers.is (cong (pos 4) (pos 6)))
+  pub number-11 : (spacing.neg (cong (pos 1) (pos 3)) ≡ answers.is (cong (negsuc 0) (pos 3))) × (spacingMended.neg w64 (cong (pos 1) (pos 3)) ≡ answers.is (cong (pos 2) (pos 3)))
+  pub number-12 : (spacing.div (cong (pos 0) (pos 6)) (cong (negsuc 1) (pos 0)) ≡ answers.refused 3) × (spacingMended.div w64 (cong (pos 0) (pos 6)) (cong (negsuc 1) (pos 0)) ≡ answers.is (cong (pos 0) (pos 3)))
   pub number-13 : range.widen (pos 0 ⋯ pos 5) (single (pos 0)) ≡ (pos 0 ⋯ greatest w64)
   pub number-14 : (room : List ℤ) → 15 ≤ length room → checking w64 portions room ≡ portionsShown

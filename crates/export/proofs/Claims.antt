@@ -9,8 +9,8 @@ use Rattle.whole.specs.declared.Exact.{Exact}
 use Rattle.whole.specs.declared.Exact.the-variants as exact
 use Rattle.interval.specs.declared.Interval.{Interval}
 use Rattle.refusal.specs.Answer.{Answer, is, refused}
-use Rattle.congruence.specs.declared.CongruenceAnswer.{CongruenceAnswer}
-use Rattle.congruence.specs.declared.CongruenceAnswer.the-variants.{Is, Refused}
+use Rattle.refusal.specs.Answer as answers
+use Rattle.congruence.specs.declared.Congruence.{Congruence}
 use Rattle.export.specs.Call.{Result, number, range, spacing, Leaves}
 use Rattle.export.specs.Sheets.{Seen, Told}
 use Rattle.export.proofs.Put.{put-either}
@@ -42,9 +42,9 @@ careful-range : (a : Answer Interval) → Careful (range a)
 careful-range (is v) room = put-either _ room
 careful-range (refused n) room = inr refl
 
-careful-spacing : (a : CongruenceAnswer) → Careful (spacing a)
-careful-spacing (Is v) room = put-either _ room
-careful-spacing (Refused r) room = inr refl
+careful-spacing : (a : answers.Answer Congruence) → Careful (spacing a)
+careful-spacing (answers.is v) room = put-either _ room
+careful-spacing (answers.refused n) room = inr refl
 
 pub number-kept : (e : Exact) {room left : List ℤ} {s : ℕ} → Leaves (number e) room s left → s ≢ 0 → left ≡ room
 number-kept e = kept (careful-number e)
@@ -52,5 +52,5 @@ number-kept e = kept (careful-number e)
 pub range-kept : (a : Answer Interval) {room left : List ℤ} {s : ℕ} → Leaves (range a) room s left → s ≢ 0 → left ≡ room
 range-kept a = kept (careful-range a)
 
-pub spacing-kept : (a : CongruenceAnswer) {room left : List ℤ} {s : ℕ} → Leaves (spacing a) room s left → s ≢ 0 → left ≡ room
+pub spacing-kept : (a : answers.Answer Congruence) {room left : List ℤ} {s : ℕ} → Leaves (spacing a) room s left → s ≢ 0 → left ≡ room
 spacing-kept a = kept (careful-spacing a)

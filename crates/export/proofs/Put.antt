@@ -11,8 +11,8 @@ use Rattle.whole.proofs.Decides.{leb-test, branch}
 use Rattle.interval.specs.declared.Interval.{Interval}
 use Rattle.interval.specs.Set.{_⋯_}
 use Rattle.refusal.specs.Answer.{Answer}
+use Rattle.refusal.specs.Answer as answers
 use Rattle.congruence.specs.declared.Congruence.{Congruence}
-use Rattle.congruence.specs.declared.CongruenceAnswer.{CongruenceAnswer}
 use Rattle.congruence.specs.Set.{cong}
 use Rattle.export.specs.Call.{Result, refusedBy, put, range, spacing, Leaves}
 
@@ -43,6 +43,6 @@ module _ {room left : List ℤ} {s : ℕ} where
       answer ≡ f x y → x ≡ (a ⋯ b) → y ≡ (c ⋯ d) → Leaves (range answer) room s left → Leaves (range (f (a ⋯ b) (c ⋯ d))) room s left
   ranged f e p q l = subst (λ v. Leaves (range v) room s left) (e ∙ ap₂ f p q) l
 
-  pub spaced : (f : Congruence → Congruence → CongruenceAnswer) {x y : Congruence} {c m e n : ℤ} {answer : CongruenceAnswer} →
+  pub spaced : (f : Congruence → Congruence → answers.Answer Congruence) {x y : Congruence} {c m e n : ℤ} {answer : answers.Answer Congruence} →
       answer ≡ f x y → x ≡ cong c m → y ≡ cong e n → Leaves (spacing answer) room s left → Leaves (spacing (f (cong c m) (cong e n))) room s left
   spaced f h p q l = subst (λ v. Leaves (spacing v) room s left) (h ∙ ap₂ f p q) l

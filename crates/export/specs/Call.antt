@@ -10,11 +10,10 @@ use lib.Seq.{sets}
 use Rattle.whole.specs.Choice.{pick}
 use Rattle.whole.specs.declared.Exact.{Exact}
 use Rattle.whole.specs.declared.Exact.the-variants as exact
-use Rattle.refusal.specs.Number.{numberOf}
+use Rattle.refusal.specs.Answer as answers
 use Rattle.interval.specs.declared.Interval.{Interval}
 use Rattle.refusal.specs.Answer.{Answer, is, refused}
-use Rattle.congruence.specs.declared.CongruenceAnswer.{CongruenceAnswer}
-use Rattle.congruence.specs.declared.CongruenceAnswer.the-variants.{Is, Refused}
+use Rattle.congruence.specs.declared.Congruence.{Congruence}
 
 -- the status, and the numbers that are put in front
 pub record Result : Type 0 where
@@ -39,9 +38,9 @@ range (is v) = put (v .min ∷ v .max ∷ [])
 range (refused n) = refusedBy n
 
 -- a congruence: constant, modulus
-abbrev pub spacing : CongruenceAnswer → List ℤ → Result
-spacing (Is v) = put (v .constant ∷ v .modulus ∷ [])
-spacing (Refused r) = refusedBy (numberOf r)
+abbrev pub spacing : answers.Answer Congruence → List ℤ → Result
+spacing (answers.is v) = put (v .constant ∷ v .modulus ∷ [])
+spacing (answers.refused n) = refusedBy n
 
 -- a call with this room gives this status and leaves the room so; what is behind the numbers is kept
 pub record Leaves (answer : List ℤ → Result) (room : List ℤ) (status : ℕ) (left : List ℤ) : Type 0 where

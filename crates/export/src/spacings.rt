@@ -5,13 +5,14 @@ use congruence::CongruenceAnswer;
 ghost use mathlib.Core.Path.{_≡_};
 ghost use mir.Syntax.{w64};
 ghost use Rattle.congruence.specs.Set.{cong};
+ghost use Rattle.congruence.specs.Answer.{told};
 ghost use Rattle.congruence.specs.Mended as mended;
 ghost use Rattle.congruence.specs.Ported as ported;
 ghost use Rattle.export.specs.Call.{Leaves, spacing};
 
 // Puts an answer's spacing into the lent room.
 fn put_spacing(room: &mut [i64], answer: CongruenceAnswer) -> u8
-    ensures { λ r. ⌜ Leaves (spacing answer) (now (room .entry)) r (now (room .exit)) ⌝ }
+    ensures { λ r. ⌜ Leaves (spacing (told answer)) (now (room .entry)) r (now (room .exit)) ⌝ }
 {
     match answer {
         CongruenceAnswer::Is(v) => put_two(room, v.constant, v.modulus),

@@ -14,6 +14,7 @@ use Rattle.whole.specs.declared.Order.{Order}
 use Rattle.whole.specs.declared.Order.the-variants.{Less, Equal, Greater, None}
 use Rattle.whole.proofs.Decides.{le-test, lt-test, both, either, is-false, yes}
 use Rattle.whole.proofs.Shapes.{lin}
+use Rattle.refusal.specs.Answer as answers
 use Rattle.refusal.proofs.Claims.{number-tells}
 use Rattle.interval.specs.declared.Interval.{Interval}
 use Rattle.interval.specs.declared.IntervalAnswer.{IntervalAnswer}
@@ -24,10 +25,8 @@ use Rattle.interval.specs.Answer.{told}
 use Rattle.interval.specs.Mended.{andV, orV, notV}
 use Rattle.interval.specs.Ported as I
 use Rattle.congruence.specs.declared.Congruence.{Congruence}
-use Rattle.congruence.specs.declared.CongruenceAnswer.the-variants.{Is, Refused}
 use Rattle.congruence.specs.Set.{domain?}
 use Rattle.congruence.specs.Set as S
-use Rattle.congruence.specs.Answer.{within, within2, noValue}
 use Rattle.congruence.specs.Ported as C
 use Rattle.transfer.specs.Operator.{outside?, one?, two?, other}
 use Rattle.transfer.specs.Refuses.{Refuses, rangeNumber, spacingNumber}
@@ -55,13 +54,13 @@ unfolding intervalUnary _≟_
 interval-operators-1 a = (refl, refl)
 
 pub congruence-operators : (a b : Congruence) → map (λ op. binaryWithin op a b) binary
-    ≡ (C.add a b ∷ C.sub a b ∷ C.mul a b ∷ C.div a b ∷ Is S.top ∷ C.equals a b ∷ C.logicalAnd a b ∷ C.logicalOr a b
+    ≡ (C.add a b ∷ C.sub a b ∷ C.mul a b ∷ C.div a b ∷ answers.is S.top ∷ C.equals a b ∷ C.logicalAnd a b ∷ C.logicalOr a b
     ∷ spacingOn (C.strictCmp a b) spacing.yes spacing.no spacing.no ∷ spacingOn (C.strictCmp a b) spacing.no spacing.no spacing.yes
     ∷ spacingOn (C.strictCmp a b) spacing.yes spacing.yes spacing.no ∷ spacingOn (C.strictCmp a b) spacing.no spacing.yes spacing.yes ∷ [])
 unfolding binaryWithin _≟_
 congruence-operators a b = refl
 
-pub congruence-operators-1 : (a : Congruence) → (unaryWithin (pos 14) a ≡ C.logicalNot a) × (unaryWithin (pos 15) a ≡ Is a)
+pub congruence-operators-1 : (a : Congruence) → (unaryWithin (pos 14) a ≡ C.logicalNot a) × (unaryWithin (pos 15) a ≡ answers.is a)
 unfolding unaryWithin _≟_
 congruence-operators-1 a = (refl, refl)
 
@@ -147,7 +146,7 @@ unfolding binaryWithin other
 none-spacing op e a b = rw (far op 2 e (omega arith) (omega arith), far op 3 e (omega arith) (omega arith), far op 4 e (omega arith) (omega arith), far op 5 e (omega arith) (omega arith), far op 6 e (omega arith) (omega arith), far op 7 e (omega arith) (omega arith), far op 8 e (omega arith) (omega arith), far op 9 e (omega arith) (omega arith), far op 10 e (omega arith) (omega arith), far op 11 e (omega arith) (omega arith), far op 12 e (omega arith) (omega arith), far op 13 e (omega arith) (omega arith), far op 14 e (omega arith) (omega arith), far op 15 e (omega arith) (omega arith), e) (record { by-1 = refl; by-4 = refl })
 
 inside-binary : (op : ℤ) (a b : Congruence) → (domain? a && domain? b) ≡ true → Refuses (spacingNumber (binaryWithin op a b)) (outside? op) (one? op)
-unfolding binaryWithin other within2 spacingOn _≟_ _<?_
+unfolding binaryWithin other spacingOn _≟_ _<?_
 inside-binary op a b d = go (operator op)
   where
     go : {op : ℤ} → Operator op → Refuses (spacingNumber (binaryWithin op a b)) (outside? op) (one? op)
@@ -169,11 +168,10 @@ inside-binary op a b d = go (operator op)
 
 -- outside the domain 1 goes first, whatever the operator
 pub congruence-binary-refused : (op : ℤ) (a b : Congruence) → Refuses (spacingNumber (congruenceBinary op a b)) (not (domain? a && domain? b) || outside? op) ((domain? a && domain? b) && (one? op))
-unfolding within2
 congruence-binary-refused op a b = go (domain? a && domain? b) (inside-binary op a b)
   where
     go : (d : Bool) → (d ≡ true → Refuses (spacingNumber (binaryWithin op a b)) (outside? op) (one? op)) →
-        Refuses (spacingNumber (pick d (binaryWithin op a b) noValue)) (not d || outside? op) (d && (one? op))
+        Refuses (spacingNumber (pick d (binaryWithin op a b) (answers.refused 1))) (not d || outside? op) (d && (one? op))
     go true h = h refl
     go false h = record { by-1 = refl; by-4 = refl }
 
@@ -182,7 +180,7 @@ unfolding unaryWithin other
 none-spacing-1 op e a = rw (far op 14 e (omega arith) (omega arith), far op 15 e (omega arith) (omega arith), e) (record { by-1 = refl; by-4 = sym (untaken op e) })
 
 inside-unary : (op : ℤ) (a : Congruence) → domain? a ≡ true → Refuses (spacingNumber (unaryWithin op a)) (outside? op) (two? op)
-unfolding unaryWithin other within _≟_ _<?_ _≤?_
+unfolding unaryWithin other _≟_ _<?_ _≤?_
 inside-unary op a d = go (operator op)
   where
     go : {op : ℤ} → Operator op → Refuses (spacingNumber (unaryWithin op a)) (outside? op) (two? op)
@@ -203,10 +201,9 @@ inside-unary op a d = go (operator op)
     go (none {op = op} e) = none-spacing-1 op e a
 
 pub congruence-unary-refused : (op : ℤ) (a : Congruence) → Refuses (spacingNumber (congruenceUnary op a)) (not (domain? a) || outside? op) (domain? a && two? op)
-unfolding within
 congruence-unary-refused op a = go (domain? a) (inside-unary op a)
   where
     go : (d : Bool) → (d ≡ true → Refuses (spacingNumber (unaryWithin op a)) (outside? op) (two? op)) →
-        Refuses (spacingNumber (pick d (unaryWithin op a) noValue)) (not d || outside? op) (d && two? op)
+        Refuses (spacingNumber (pick d (unaryWithin op a) (answers.refused 1))) (not d || outside? op) (d && two? op)
     go true h = h refl
     go false h = record { by-1 = refl; by-4 = refl }

@@ -9,17 +9,12 @@ use Rattle.whole.specs.Test.{_≟_, _<?_}
 use Rattle.whole.specs.Range.{least}
 use Rattle.whole.specs.declared.Exact.{Exact}
 use Rattle.whole.specs.declared.Exact.the-variants as exact
-use Rattle.refusal.specs.Number.{numberOf}
-use Rattle.refusal.specs.declared.Refusal.the-variants.{DoesNotFit, WouldAssert}
+use Rattle.refusal.specs.Answer as answers
 use Rattle.interval.specs.declared.Interval.{Interval}
 use Rattle.interval.specs.Set.{_∈?_, top, isBottom, isOnly}
 use Rattle.refusal.specs.Answer.{Answer, is, refused}
 use Rattle.interval.specs.Ported as I
 use Rattle.congruence.specs.declared.Congruence.{Congruence}
-use Rattle.congruence.specs.declared.CongruenceAnswer.{CongruenceAnswer}
-use Rattle.congruence.specs.declared.CongruenceAnswer.the-variants.{Is, Refused}
-use Rattle.congruence.specs.declared.TruthAnswer.{TruthAnswer}
-use Rattle.congruence.specs.declared.TruthAnswer.the-variants as truths
 use Rattle.congruence.specs.Set.{bottom?}
 use Rattle.congruence.specs.Numbers.{formula, divides?}
 use Rattle.congruence.specs.Ported as C
@@ -62,9 +57,9 @@ rem a b = go ((isBottom w64 a || isBottom w64 b) || isOnly b (pos 0)) ((a .min �
 
 -- ---- congruences
 
-abbrev truthNumber : TruthAnswer → ℕ
-truthNumber (truths.Is t) = 0
-truthNumber (truths.Refused r) = numberOf r
+abbrev truthNumber : answers.Answer Bool → ℕ
+truthNumber (answers.is t) = 0
+truthNumber (answers.refused n) = n
 
 made : (c m : Exact) → Own (spacingNumber (C.made c m))
 unfolding C.made
@@ -76,7 +71,7 @@ held : (c m : ℤ) → Own (spacingNumber (C.held c m))
 unfolding C.held
 held c m = go ((m ≟ pos 0) || (c <? m)) _
   where
-    go : (p : Bool) (v : Congruence) → Own (spacingNumber (pick p (Is v) (Refused WouldAssert)))
+    go : (p : Bool) (v : Congruence) → Own (spacingNumber (pick p (answers.is v) (answers.refused 3)))
     go true v = value
     go false v = asserts
 
@@ -87,11 +82,11 @@ asserted (exact.Is c) exact.DoesNotFit = wide
 asserted (exact.Is c) (exact.Is m) = held c m
 
 -- a value, or an answer of these
-first : (p : Bool) (v : Congruence) (r : CongruenceAnswer) → Own (spacingNumber r) → Own (spacingNumber (pick p (Is v) r))
+first : (p : Bool) (v : Congruence) (r : answers.Answer Congruence) → Own (spacingNumber r) → Own (spacingNumber (pick p (answers.is v) r))
 first true v r h = value
 first false v r h = h
 
-last : (p : Bool) (v : Congruence) (r : CongruenceAnswer) → Own (spacingNumber r) → Own (spacingNumber (pick p r (Is v)))
+last : (p : Bool) (v : Congruence) (r : answers.Answer Congruence) → Own (spacingNumber r) → Own (spacingNumber (pick p r (answers.is v)))
 last true v r h = h
 last false v r h = value
 
@@ -107,9 +102,9 @@ pub subtracted : (a b : Congruence) → Own (spacingNumber (C.subtracted a b))
 unfolding C.subtracted C.addedTo
 subtracted a b = go (C.negated b) (negated b)
   where
-    go : (n : CongruenceAnswer) → Own (spacingNumber n) → Own (spacingNumber (C.addedTo a n))
-    go (Is v) h = added a v
-    go (Refused r) h = h
+    go : (n : answers.Answer Congruence) → Own (spacingNumber n) → Own (spacingNumber (C.addedTo a n))
+    go (answers.is v) h = added a v
+    go (answers.refused n) h = h
 
 pub multiplied : (a b : Congruence) → Own (spacingNumber (C.multiplied a b))
 unfolding C.multiplied
@@ -120,11 +115,11 @@ unfolding C.divided C.dividedBy
 divided a b = first ((bottom? a || bottom? b) || C.only? b (pos 0)) _ _ (last (b .modulus ≟ pos 0) _ _ (last (divides? (b .constant) a) _ _ (asserted _ _)))
 
 -- whatever follows from a truth that is refused by 2 alone
-onTruth : (t : TruthAnswer) (u v : Congruence) → Own (truthNumber t) → Own (spacingNumber (C.onTruth t (Is u) (Is v)))
+onTruth : (t : answers.Answer Bool) (u v : Congruence) → Own (truthNumber t) → Own (spacingNumber (C.onTruth t (answers.is u) (answers.is v)))
 unfolding C.onTruth
-onTruth (truths.Is true) u v h = value
-onTruth (truths.Is false) u v h = value
-onTruth (truths.Refused r) u v h = h
+onTruth (answers.is true) u v h = value
+onTruth (answers.is false) u v h = value
+onTruth (answers.refused n) u v h = h
 
 indivisible : (d g : Exact) → Own (truthNumber (C.indivisible d g))
 unfolding C.indivisible
@@ -136,7 +131,7 @@ separated : (a b : Congruence) → Own (truthNumber (C.separated a b))
 unfolding C.separated
 separated a b = go (a .modulus ≟ pos 0) (b .modulus ≟ pos 0) _ _ _ _ (indivisible _ _)
   where
-    go : (p q x y z : Bool) (t : TruthAnswer) → Own (truthNumber t) → Own (truthNumber (pick p (pick q (truths.Is x) (truths.Is y)) (pick q (truths.Is z) t)))
+    go : (p q x y z : Bool) (t : answers.Answer Bool) → Own (truthNumber t) → Own (truthNumber (pick p (pick q (answers.is x) (answers.is y)) (pick q (answers.is z) t)))
     go true true x y z t h = value
     go true false x y z t h = value
     go false true x y z t h = value

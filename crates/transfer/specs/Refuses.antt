@@ -3,19 +3,18 @@ use mathlib.Core.Path.{_≡_}
 use mathlib.Core.Bool.{Bool}
 use Prim.Native.Nat.{ℕ}
 use lib.Dec.{eqb}
-use Rattle.refusal.specs.Number.{numberOf}
+use Rattle.refusal.specs.Answer as answers
 use Rattle.interval.specs.declared.Interval.{Interval}
 use Rattle.refusal.specs.Answer.{Answer, is, refused}
-use Rattle.congruence.specs.declared.CongruenceAnswer.{CongruenceAnswer}
-use Rattle.congruence.specs.declared.CongruenceAnswer.the-variants.{Is, Refused}
+use Rattle.congruence.specs.declared.Congruence.{Congruence}
 
 abbrev pub rangeNumber : Answer Interval → ℕ
 rangeNumber (is v) = 0
 rangeNumber (refused n) = n
 
-abbrev pub spacingNumber : CongruenceAnswer → ℕ
-spacingNumber (Is v) = 0
-spacingNumber (Refused r) = numberOf r
+abbrev pub spacingNumber : answers.Answer Congruence → ℕ
+spacingNumber (answers.is v) = 0
+spacingNumber (answers.refused n) = n
 
 pub record Refuses (n : ℕ) (one four : Bool) : Type 0 where
   pub by-1 : eqb n 1 ≡ one

@@ -1,16 +1,15 @@
 -- The transfers of 002, by its text: what each operator answers on congruences. Outside the domain all are refused by 1, first of all.
+use mathlib.Core.Bool.{_&&_}
 use lib.IntN.{ℤ, pos}
 use Rattle.whole.specs.Choice.{pick}
 use Rattle.whole.specs.Test.{_≟_}
 use Rattle.whole.specs.declared.Order.{Order}
 use Rattle.whole.specs.declared.Order.the-variants.{Less, Equal, Greater, None}
+use Rattle.refusal.specs.Number.{numberOf}
+use Rattle.refusal.specs.Answer.{Answer, is, refused}
 use Rattle.congruence.specs.declared.Congruence.{Congruence}
-use Rattle.congruence.specs.declared.CongruenceAnswer.{CongruenceAnswer}
-use Rattle.congruence.specs.declared.CongruenceAnswer.the-variants.{Is, Refused}
-use Rattle.congruence.specs.declared.OrderAnswer.{OrderAnswer}
-use Rattle.congruence.specs.declared.OrderAnswer.the-variants as orders
-use Rattle.congruence.specs.Set.{cong, top}
-use Rattle.congruence.specs.Answer.{within, within2, noValue}
+use Rattle.congruence.specs.Set.{cong, top, domain?}
+use Rattle.congruence.specs.Answer.{within}
 use Rattle.congruence.specs.Ported.{add, sub, mul, div, equals, logicalAnd, logicalOr, logicalNot, strictCmp}
 use Rattle.transfer.specs.Operator.{other}
 
@@ -27,18 +26,18 @@ spacingBy Equal less equal greater = equal
 spacingBy Greater less equal greater = greater
 spacingBy None less equal greater = top
 
-unfoldable pub spacingOn : OrderAnswer → (less equal greater : Congruence) → CongruenceAnswer
-spacingOn (orders.Is o) less equal greater = Is (spacingBy o less equal greater)
-spacingOn (orders.Refused r) less equal greater = Refused r
+unfoldable pub spacingOn : Answer Order → (less equal greater : Congruence) → Answer Congruence
+spacingOn (is o) less equal greater = is (spacingBy o less equal greater)
+spacingOn (refused n) less equal greater = refused n
 
 -- add, sub, mul, div, mod, =, and, or, <, >, <=, >=
-unfoldable pub binaryWithin : ℤ → Congruence → Congruence → CongruenceAnswer
+unfoldable pub binaryWithin : ℤ → Congruence → Congruence → Answer Congruence
 binaryWithin op a b =
     pick (op ≟ pos 2) (add a b)
     (pick (op ≟ pos 3) (sub a b)
     (pick (op ≟ pos 4) (mul a b)
     (pick (op ≟ pos 5) (div a b)
-    (pick (op ≟ pos 6) (Is top)
+    (pick (op ≟ pos 6) (is top)
     (pick (op ≟ pos 7) (equals a b)
     (pick (op ≟ pos 8) (logicalAnd a b)
     (pick (op ≟ pos 9) (logicalOr a b)
@@ -46,17 +45,17 @@ binaryWithin op a b =
     (pick (op ≟ pos 11) (spacingOn (strictCmp a b) no no yes)
     (pick (op ≟ pos 12) (spacingOn (strictCmp a b) yes yes no)
     (pick (op ≟ pos 13) (spacingOn (strictCmp a b) no yes yes)
-    (Refused (other op)))))))))))))
+    (refused (numberOf (other op))))))))))))))
 
-abbrev pub congruenceBinary : ℤ → Congruence → Congruence → CongruenceAnswer
-congruenceBinary op a b = within2 noValue a b (binaryWithin op a b)
+abbrev pub congruenceBinary : ℤ → Congruence → Congruence → Answer Congruence
+congruenceBinary op a b = within (domain? a && domain? b) (binaryWithin op a b)
 
 -- not, same
-unfoldable pub unaryWithin : ℤ → Congruence → CongruenceAnswer
+unfoldable pub unaryWithin : ℤ → Congruence → Answer Congruence
 unaryWithin op a =
     pick (op ≟ pos 14) (logicalNot a)
-    (pick (op ≟ pos 15) (Is a)
-    (Refused (other op)))
+    (pick (op ≟ pos 15) (is a)
+    (refused (numberOf (other op))))
 
-abbrev pub congruenceUnary : ℤ → Congruence → CongruenceAnswer
-congruenceUnary op a = within noValue a (unaryWithin op a)
+abbrev pub congruenceUnary : ℤ → Congruence → Answer Congruence
+congruenceUnary op a = within (domain? a) (unaryWithin op a)

@@ -12,6 +12,7 @@ use whole::Order;
 ghost use mathlib.Core.Path.{_≡_};
 ghost use lib.IntN.{ℤ};
 ghost use Rattle.interval.specs.Answer.{told};
+ghost use Rattle.congruence.specs.Answer.{told as spacingTold, orderTold};
 ghost use Rattle.transfer.specs.Operator.{other};
 ghost use Rattle.transfer.specs.Ranges.{rangeBy, intervalBinary, intervalUnary};
 ghost use Rattle.transfer.specs.Spacings.{spacingBy, spacingOn, binaryWithin, unaryWithin, congruenceBinary, congruenceUnary};
@@ -106,7 +107,7 @@ fn spacing_on(
     equal: Congruence,
     greater: Congruence,
 ) -> CongruenceAnswer
-    ensures { λ r. ⌜ r ≡ spacingOn order less equal greater ⌝ }
+    ensures { λ r. ⌜ spacingTold r ≡ spacingOn (orderTold order) less equal greater ⌝ }
 {
     match order {
         OrderAnswer::Is(o) => CongruenceAnswer::Is(spacing_by(o, less, equal, greater)),
@@ -116,7 +117,7 @@ fn spacing_on(
 
 // On values of the domain.
 fn binary_within(op: i64, a: Congruence, b: Congruence) -> CongruenceAnswer
-    ensures { λ r. ⌜ r ≡ binaryWithin op a b ⌝ }
+    ensures { λ r. ⌜ spacingTold r ≡ binaryWithin op a b ⌝ }
 {
     let order = congruence::ported::strict_cmp(a, b);
     match whole::natural(op) {
@@ -137,7 +138,7 @@ fn binary_within(op: i64, a: Congruence, b: Congruence) -> CongruenceAnswer
 }
 
 pub fn congruence_binary(op: i64, a: Congruence, b: Congruence) -> CongruenceAnswer
-    ensures { λ r. ⌜ r ≡ congruenceBinary op a b ⌝ }
+    ensures { λ r. ⌜ spacingTold r ≡ congruenceBinary op a b ⌝ }
 {
     if !a.in_domain() {
         return CongruenceAnswer::Refused(Refusal::NotInDomain);
@@ -150,7 +151,7 @@ pub fn congruence_binary(op: i64, a: Congruence, b: Congruence) -> CongruenceAns
 
 // On a value of the domain.
 fn unary_within(op: i64, a: Congruence) -> CongruenceAnswer
-    ensures { λ r. ⌜ r ≡ unaryWithin op a ⌝ }
+    ensures { λ r. ⌜ spacingTold r ≡ unaryWithin op a ⌝ }
 {
     match whole::natural(op) {
         14 => congruence::ported::logical_not(a),
@@ -160,7 +161,7 @@ fn unary_within(op: i64, a: Congruence) -> CongruenceAnswer
 }
 
 pub fn congruence_unary(op: i64, a: Congruence) -> CongruenceAnswer
-    ensures { λ r. ⌜ r ≡ congruenceUnary op a ⌝ }
+    ensures { λ r. ⌜ spacingTold r ≡ congruenceUnary op a ⌝ }
 {
     if a.in_domain() {
         unary_within(op, a)

@@ -2,7 +2,7 @@
 use mathlib.Core.Path.{_≡_, refl, sym, ap, _∙_, subst}
 use mathlib.Core.Logic.{_≢_}
 use Prim.Native.Nat.{ℕ, zero, suc, _%_, _<_}
-use native.Mathlib.Nat.{mod-zero, mod-one}
+use native.Mathlib.Nat.{mod-one}
 use native.Mathlib.Omega.{arith}
 use lib.IntN.{ℤ, pos, negsuc, negℤ, natAbs, _+ℤ_, _-ℤ_, _*ℤ_, zero-*ℤ}
 use lib.Signed.{_≤ℤ_, _<ℤ_, remZ, quotZ}
@@ -15,7 +15,7 @@ use Rattle.whole.proofs.Shapes.{lin}
 use Rattle.whole.proofs.Ring.{natAbs-zero}
 use Rattle.whole.proofs.Decides.{lt-test, branch, is-true, is-false}
 use Rattle.whole.proofs.Fits.{machine, range}
-use Rattle.whole.proofs.Divide.{quot-rem, natAbs-rem, rem-small, small-multiple, fits-rem}
+use Rattle.whole.proofs.Divide.{quot-rem, natAbs-rem, rem-small, rem-zero, small-multiple}
 use Rattle.whole.proofs.Divides.{∣-refl, ∣-+, ∣-neg}
 use Rattle.whole.proofs.Congruence.{∣-at, ∣-natAbs, Cong-trans, Cong-sym}
 
@@ -28,10 +28,6 @@ module _ (x m : ℤ) where
   pub floor-down : remZ x m <ℤ pos 0 → floorRem x m ≡ remZ x m +ℤ pos (natAbs m)
   unfolding floorRem
   floor-down h = rw (is-true (lt-test (remZ x m) (pos 0)) (λ k. omega ints)) refl
-
-rem-zero : (x : ℤ) → remZ x (pos 0) ≡ x
-rem-zero (pos a) = ap pos (mod-zero a)
-rem-zero (negsuc a) = ap (λ t. negℤ (pos t)) (mod-zero (suc a))
 
 pub floor-zero : (x : ℤ) → floorRem x (pos 0) ≡ x
 unfolding floorRem
@@ -58,18 +54,19 @@ to-abs (negsuc k) z h = record { by = negℤ (h .by); is = turned z (h .by) (pos
     turned : (z u m : ℤ) → z ≡ u *ℤ negℤ m → z ≡ negℤ u *ℤ m
     turned z u m = rw (read z, read u, read m) (simp wholes (omega arith))
 
+-- the truncated remainder differs from x by a multiple of m
+pub rem-class : (x m : ℤ) → Cong (natAbs m) (remZ x m) x
+rem-class x m = to-abs m (remZ x m -ℤ x) (record { by = negℤ (quotZ x m); is = move x (quotZ x m) m (remZ x m) (quot-rem x m) })
+  where
+    move : (x q m r : ℤ) → x ≡ q *ℤ m +ℤ r → r -ℤ x ≡ negℤ q *ℤ m
+    move x q m r = rw (read x, read q, read m, read r) (simp wholes (omega arith))
+
 pub floor-class : (x m : ℤ) → Cong (natAbs m) (floorRem x m) x
 unfolding floorRem
-floor-class x m = branch (lt-test (remZ x m) (pos 0)) (λ t. Cong (natAbs m) t x) (λ h. above) (λ h. there)
+floor-class x m = branch (lt-test (remZ x m) (pos 0)) (λ t. Cong (natAbs m) t x) (λ h. above) (λ h. rem-class x m)
   where
-    there : Cong (natAbs m) (remZ x m) x
-    there = to-abs m (remZ x m -ℤ x) (record { by = negℤ (quotZ x m); is = move x (quotZ x m) m (remZ x m) (quot-rem x m) })
-      where
-        move : (x q m r : ℤ) → x ≡ q *ℤ m +ℤ r → r -ℤ x ≡ negℤ q *ℤ m
-        move x q m r = rw (read x, read q, read m, read r) (simp wholes (omega arith))
-
     above : Cong (natAbs m) (remZ x m +ℤ pos (natAbs m)) x
-    above = ∣-at (remZ x m +ℤ pos (natAbs m) -ℤ x) (moved (remZ x m) x (pos (natAbs m))) (∣-+ there (∣-refl (pos (natAbs m))))
+    above = ∣-at (remZ x m +ℤ pos (natAbs m) -ℤ x) (moved (remZ x m) x (pos (natAbs m))) (∣-+ (rem-class x m) (∣-refl (pos (natAbs m))))
       where
         moved : (r x k : ℤ) → (r -ℤ x) +ℤ k ≡ r +ℤ k -ℤ x
         moved r x k = rw (read r, read x, read k) (simp wholes (omega arith))

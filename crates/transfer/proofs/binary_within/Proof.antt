@@ -1,6 +1,7 @@
 use mathlib.Core.Path.{refl, ap, _∙_}
 use Rattle.whole.specs.Test.{_≟_}
-use Rattle.congruence.specs.declared.CongruenceAnswer.the-variants.{Refused}
+use Rattle.refusal.specs.Number.{numberOf}
+use Rattle.refusal.specs.Answer.{refused}
 use Rattle.transfer.specs.Spacings.{yes, no, spacingOn, binaryWithin}
 use Rattle.transfer.proofs.Keys.{key, passed, other-called}
 use borrow.Author.Needs.{needs}
@@ -127,7 +128,7 @@ returns-13 c =
     let s = c .before .before .before .before in
     let f = passed (s .args .op) _ (c .before .before .natural .ensures) (s .fits .op) in
     let m = c .before .match .rest in
-    rw (f 2 (m .0 .0 .0 .0 .0 .0 .0 .0 .0 .0 .0 .1), f 3 (m .0 .0 .0 .0 .0 .0 .0 .0 .0 .0 .1), f 4 (m .0 .0 .0 .0 .0 .0 .0 .0 .0 .1), f 5 (m .0 .0 .0 .0 .0 .0 .0 .0 .1), f 6 (m .0 .0 .0 .0 .0 .0 .0 .1), f 7 (m .0 .0 .0 .0 .0 .0 .1), f 8 (m .0 .0 .0 .0 .0 .1), f 9 (m .0 .0 .0 .0 .1), f 10 (m .0 .0 .0 .1), f 11 (m .0 .0 .1), f 12 (m .0 .1), f 13 (m .1)) (ap Refused (other-called (s .args .op) _ (c .other .ensures) (s .fits .op)))
+    rw (f 2 (m .0 .0 .0 .0 .0 .0 .0 .0 .0 .0 .0 .1), f 3 (m .0 .0 .0 .0 .0 .0 .0 .0 .0 .0 .1), f 4 (m .0 .0 .0 .0 .0 .0 .0 .0 .0 .1), f 5 (m .0 .0 .0 .0 .0 .0 .0 .0 .1), f 6 (m .0 .0 .0 .0 .0 .0 .0 .1), f 7 (m .0 .0 .0 .0 .0 .0 .1), f 8 (m .0 .0 .0 .0 .0 .1), f 9 (m .0 .0 .0 .0 .1), f 10 (m .0 .0 .0 .1), f 11 (m .0 .0 .1), f 12 (m .0 .1), f 13 (m .1)) (ap (λ r. refused (numberOf r)) (other-called (s .args .op) _ (c .other .ensures) (s .fits .op)))
 
 pub binary-within-spec : {M : Type 1} → statement M
 binary-within-spec =

@@ -1,5 +1,5 @@
 use mathlib.Core.Path.{ap}
-use Rattle.congruence.specs.declared.CongruenceAnswer.the-variants.{Is}
+use Rattle.refusal.specs.Answer.{is}
 use Rattle.transfer.specs.Spacings.{spacingOn}
 use borrow.Author.Needs.{needs}
 use Rattle.transfer.proofs.spacing_on.Statement.{statement}
@@ -16,7 +16,7 @@ enum-known-order-2 c = search needs
 
 returns : tie.Need-returns
 unfolding spacingOn
-returns c = rw (c .before .before .order .given .1) (ap Is (c .spacing-by .ensures))
+returns c = rw (c .before .before .order .given .1) (ap is (c .spacing-by .ensures))
 
 returns-2 : tie.Need-returns-2
 unfolding spacingOn

@@ -1,6 +1,7 @@
 use mathlib.Core.Path.{refl, ap}
 use Rattle.whole.specs.Test.{_≟_}
-use Rattle.congruence.specs.declared.CongruenceAnswer.the-variants.{Refused}
+use Rattle.refusal.specs.Number.{numberOf}
+use Rattle.refusal.specs.Answer.{refused}
 use Rattle.transfer.specs.Spacings.{unaryWithin}
 use Rattle.transfer.proofs.Keys.{key, passed, other-called}
 use borrow.Author.Needs.{needs}
@@ -34,7 +35,7 @@ returns-3 c =
     let s = c .before .before .before in
     let f = passed (s .args .op) _ (c .before .before .natural .ensures) (s .fits .op) in
     let m = c .before .match .rest in
-    rw (f 14 (m .0 .1), f 15 (m .1)) (ap Refused (other-called (s .args .op) _ (c .other .ensures) (s .fits .op)))
+    rw (f 14 (m .0 .1), f 15 (m .1)) (ap (λ r. refused (numberOf r)) (other-called (s .args .op) _ (c .other .ensures) (s .fits .op)))
 
 pub unary-within-spec : {M : Type 1} → statement M
 unary-within-spec =

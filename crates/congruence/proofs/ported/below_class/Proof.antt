@@ -4,7 +4,8 @@ use lib.IntN.{pos}
 use borrow.Author.Needs.{needs}
 use Rattle.whole.proofs.Fits.{fits}
 use Rattle.congruence.proofs.Calls.{calls, leaves-told, leaves-is}
-use Rattle.congruence.proofs.Values.{values, and-is, not-on, other-bits, fits-0, and-off}
+use Rattle.whole.proofs.Flags.{eq-no-64}
+use Rattle.congruence.proofs.Values.{values, and-is, not-on, fits-0, and-off}
 use Rattle.congruence.specs.Ported.{below?}
 use Rattle.congruence.proofs.ported.below_class.Statement.{statement}
 use Rattle.congruence.proofs.ported.below_class.Tie as tie
@@ -24,7 +25,7 @@ unfolding below?
 returns-2 c =
     let s = c .before .before .before .before in
     let f = s .fits in
-    and-is _ _ _ (not-on _ (other-bits (s .args .n) (pos 0) (c .before .before .before .if1 .left)))
+    and-is _ _ _ (not-on _ (eq-no-64 (s .args .n) (pos 0) (c .before .before .before .if1 .left)))
     (and-is _ _ _ (leaves-told (s .args .m) (s .args .n) (pos 0) _ (c .before .before .leaves .ensures) (f .m) (f .n) fits-0 true (c .before .if2 .taken))
     (leaves-is (s .args .c) (s .args .n) (s .args .e) _ (c .leaves2 .ensures) (f .c) (f .n) (f .e)))
 
@@ -33,7 +34,7 @@ unfolding below?
 returns-3 c =
     let s = c .before .before .before in
     let f = s .fits in
-    and-is _ _ _ (not-on _ (other-bits (s .args .n) (pos 0) (c .before .before .if1 .left)))
+    and-is _ _ _ (not-on _ (eq-no-64 (s .args .n) (pos 0) (c .before .before .if1 .left)))
     (and-off _ _ _ (leaves-told (s .args .m) (s .args .n) (pos 0) _ (c .before .leaves .ensures) (f .m) (f .n) fits-0 false (c .if2 .left)) refl)
 
 pub below-class-spec : {M : Type 1} → statement M

@@ -1,6 +1,5 @@
 use borrow.Author.Needs.{needs}
 use Rattle.congruence.proofs.Values.{values}
-use Rattle.congruence.specs.Answer.{within2}
 use Rattle.congruence.proofs.ported.meet.Statement.{statement}
 use Rattle.congruence.proofs.ported.meet.Tie as tie
 
@@ -11,11 +10,9 @@ met-requires : tie.Need-met-requires
 met-requires c κs = search needs
 
 returns : tie.Need-returns
-unfolding within2
 returns c = search values
 
 returns-2 : tie.Need-returns-2
-unfolding within2
 returns-2 c = search values
 
 pub meet-spec : {M : Type 1} → statement M

@@ -1,6 +1,8 @@
 use borrow.Author.Needs.{needs}
+use mathlib.Core.Path.{ap}
+use Rattle.congruence.specs.Answer.{truthTold}
 use Rattle.congruence.proofs.Calls.{calls}
-use Rattle.congruence.proofs.Cases.{cases}
+use Rattle.congruence.proofs.Cases.{on-refused, on-true, on-false-made}
 use Rattle.congruence.proofs.Values.{values}
 use Rattle.congruence.proofs.ported.met_unless.Statement.{statement}
 use Rattle.congruence.proofs.ported.met_unless.Tie as tie
@@ -18,13 +20,15 @@ reduced-requires : tie.Need-reduced-requires
 reduced-requires c κs = search needs
 
 returns : tie.Need-returns
-returns c = search (cases, calls, values) depth 8
+returns c = on-refused _ _ _ _ (ap truthTold (c .before .apart .given .1))
 
 returns-2 : tie.Need-returns-2
-returns-2 c = search (cases, calls, values) depth 8
+returns-2 c = on-true _ _ _ _ (ap truthTold (c .before .before .apart2 .given .1)) (c .if1 .taken)
 
 returns-3 : tie.Need-returns-3
-returns-3 c = search (cases, calls, values) depth 9 fits 5000
+returns-3 c =
+    on-false-made _ _ _ _ _ (ap truthTold (c .before .before .before .before .before .before .before .apart2 .given .1)) (c .before .before .before .before .before .if1 .left)
+    (search (calls, values) depth 8)
 
 pub met-unless-spec : {M : Type 1} → statement M
 met-unless-spec =

@@ -1,6 +1,5 @@
 use borrow.Author.Needs.{needs}
 use Rattle.congruence.proofs.Values.{values}
-use Rattle.congruence.specs.Answer.{within2}
 use Rattle.congruence.proofs.ported.mul.Statement.{statement}
 use Rattle.congruence.proofs.ported.mul.Tie as tie
 
@@ -11,11 +10,9 @@ multiplied-requires : tie.Need-multiplied-requires
 multiplied-requires c κs = search needs
 
 returns : tie.Need-returns
-unfolding within2
 returns c = search values
 
 returns-2 : tie.Need-returns-2
-unfolding within2
 returns-2 c = search values
 
 pub mul-spec : {M : Type 1} → statement M

@@ -1,6 +1,5 @@
 use borrow.Author.Needs.{needs}
 use Rattle.congruence.proofs.Values.{values}
-use Rattle.congruence.specs.Answer.{within}
 use Rattle.congruence.proofs.ported.neg.Statement.{statement}
 use Rattle.congruence.proofs.ported.neg.Tie as tie
 
@@ -11,11 +10,9 @@ negated-requires : tie.Need-negated-requires
 negated-requires c κs = search needs
 
 returns : tie.Need-returns
-unfolding within
 returns c = search values
 
 returns-2 : tie.Need-returns-2
-unfolding within
 returns-2 c = search values
 
 pub neg-spec : {M : Type 1} → statement M

@@ -1,7 +1,7 @@
 use borrow.Author.Needs.{needs}
-use Rattle.congruence.proofs.Calls.{calls}
-use Rattle.congruence.proofs.Cases.{cases}
-use Rattle.congruence.proofs.Values.{values}
+use mathlib.Core.Path.{ap}
+use Rattle.congruence.specs.Answer.{told}
+use Rattle.congruence.proofs.Cases.{subtract-some, subtract-none}
 use Rattle.congruence.proofs.ported.subtracted.Statement.{statement}
 use Rattle.congruence.proofs.ported.subtracted.Tie as tie
 
@@ -18,10 +18,10 @@ enum-known-r : tie.Need-enum-known-r
 enum-known-r c = search needs
 
 returns : tie.Need-returns
-returns c = search (cases, calls, values) depth 8
+returns c = subtract-some _ _ _ (c .before .before .before .before .negated .ensures) _ _ (ap told (c .before .before .n .given .1)) (c .added .ensures)
 
 returns-2 : tie.Need-returns-2
-returns-2 c = search (cases, calls, values) depth 8
+returns-2 c = subtract-none _ _ _ (c .before .before .before .negated .ensures) _ (ap told (c .before .r .given .1))
 
 pub subtracted-spec : {M : Type 1} → statement M
 subtracted-spec =

@@ -1,6 +1,5 @@
 use borrow.Author.Needs.{needs}
 use Rattle.congruence.proofs.Values.{values}
-use Rattle.congruence.specs.Answer.{within2}
 use Rattle.congruence.proofs.ported.widen.Statement.{statement}
 use Rattle.congruence.proofs.ported.widen.Tie as tie
 
@@ -8,11 +7,9 @@ both-in-domain-requires : tie.Need-both-in-domain-requires
 both-in-domain-requires c κs = search needs
 
 returns : tie.Need-returns
-unfolding within2
 returns c = search values
 
 returns-2 : tie.Need-returns-2
-unfolding within2
 returns-2 c = search values
 
 pub widen-spec : {M : Type 1} → statement M

@@ -1,5 +1,4 @@
 use borrow.Author.Needs.{needs}
-use Rattle.congruence.specs.Answer.{truthful}
 use Rattle.congruence.specs.Mended as mended
 use Rattle.congruence.proofs.Values.{framed}
 use Rattle.congruence.proofs.sized.disjoint.Statement.{statement}
@@ -21,7 +20,7 @@ truth-if-requires : tie.Need-truth-if-requires
 truth-if-requires c κs = search needs
 
 returns : tie.Need-returns
-returns c = framed truthful mended.apart? (c .truth-if .ensures) (c .before .before .before .before .both-in-domain .ensures) (c .before .apart .ensures) (c .before .before .before .form .ensures) (c .before .before .form2 .ensures)
+returns c = framed mended.apart? (c .truth-if .ensures) (c .before .before .before .before .both-in-domain .ensures) (c .before .apart .ensures) (c .before .before .before .form .ensures) (c .before .before .form2 .ensures)
 
 pub disjoint-spec : {M : Type 1} → statement M
 disjoint-spec =

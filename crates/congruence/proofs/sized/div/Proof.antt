@@ -1,5 +1,4 @@
 use borrow.Author.Needs.{needs}
-use Rattle.congruence.specs.Answer.{valued}
 use Rattle.congruence.specs.Mended as mended
 use Rattle.congruence.proofs.Values.{framed}
 use Rattle.congruence.proofs.sized.div.Statement.{statement}
@@ -21,7 +20,7 @@ value-if-requires : tie.Need-value-if-requires
 value-if-requires c κs = search needs
 
 returns : tie.Need-returns
-returns c = framed valued (mended.quotient _) (c .value-if .ensures) (c .before .before .before .before .both-in-domain .ensures) (c .before .quotient-class .ensures) (c .before .before .before .form .ensures) (c .before .before .form2 .ensures)
+returns c = framed (mended.quotient _) (c .value-if .ensures) (c .before .before .before .before .both-in-domain .ensures) (c .before .quotient-class .ensures) (c .before .before .before .form .ensures) (c .before .before .form2 .ensures)
 
 pub div-spec : {M : Type 1} → statement M
 div-spec =

@@ -1,6 +1,5 @@
 use borrow.Author.Needs.{needs}
 use Rattle.whole.specs.Test.{_≤?_}
-use Rattle.congruence.specs.Answer.{valued}
 use Rattle.congruence.specs.Mended as mended
 use Rattle.congruence.proofs.Values.{framed}
 use Rattle.congruence.proofs.sized.less_or_equal.Statement.{statement}
@@ -22,7 +21,7 @@ value-if-requires : tie.Need-value-if-requires
 value-if-requires c κs = search needs
 
 returns : tie.Need-returns
-returns c = framed valued (mended.comparison _≤?_) (c .value-if .ensures) (c .before .before .before .before .both-in-domain .ensures) (c .before .at-most .ensures) (c .before .before .before .form .ensures) (c .before .before .form2 .ensures)
+returns c = framed (mended.comparison _≤?_) (c .value-if .ensures) (c .before .before .before .before .both-in-domain .ensures) (c .before .at-most .ensures) (c .before .before .before .form .ensures) (c .before .before .form2 .ensures)
 
 pub less-or-equal-spec : {M : Type 1} → statement M
 less-or-equal-spec =

@@ -1,5 +1,4 @@
 use borrow.Author.Needs.{needs}
-use Rattle.congruence.specs.Answer.{ranked}
 use Rattle.congruence.specs.Mended as mended
 use Rattle.congruence.proofs.Values.{framed}
 use Rattle.congruence.proofs.sized.partial_cmp.Statement.{statement}
@@ -21,7 +20,7 @@ order-if-requires : tie.Need-order-if-requires
 order-if-requires c κs = search needs
 
 returns : tie.Need-returns
-returns c = framed ranked mended.inclusion (c .order-if .ensures) (c .before .before .before .before .both-in-domain .ensures) (c .before .inclusion .ensures) (c .before .before .before .form .ensures) (c .before .before .form2 .ensures)
+returns c = framed mended.inclusion (c .order-if .ensures) (c .before .before .before .before .both-in-domain .ensures) (c .before .inclusion .ensures) (c .before .before .before .form .ensures) (c .before .before .form2 .ensures)
 
 pub partial-cmp-spec : {M : Type 1} → statement M
 partial-cmp-spec =
