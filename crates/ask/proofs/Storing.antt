@@ -9,14 +9,14 @@ use lib.ListN.{length, drop}
 use borrow.Author.Tests.{leb-true}
 use Rattle.whole.specs.Choice.{pick}
 use Rattle.text.specs.declared.hex.Bytes.TheVariants.{Are, NoRoom}
-use Rattle.text.specs.Hex.{hexBytes, hexAnswer}
+use Rattle.text.specs.Hex.{hex_bytes, hex_answer}
 
-pub fitting : (s : List ℕ) (at : ℕ) (out : List ℕ) (n next : ℕ) → hexAnswer s at out ≡ Are n next → n ≤ length out
-unfolding hexAnswer
+pub fitting : (s : List ℕ) (at : ℕ) (out : List ℕ) (n next : ℕ) → hex_answer s at out ≡ Are n next → n ≤ length out
+unfolding hex_answer
 fitting s at out n next e = by-test (leb size (length out)) refl e
   where
     size : ℕ
-    size = length (hexBytes (drop at s))
+    size = length (hex_bytes (drop at s))
 
     by-test : (t : Bool) → leb size (length out) ≡ t → pick t (Are size (at + 2 * size)) NoRoom ≡ Are n next → n ≤ length out
     by-test true l h =

@@ -4,47 +4,47 @@ use Rattle.std.specs.Int.{w64}
 use Rattle.whole.specs.Choice.{pick}
 use Rattle.refusal.specs.Number.{number_of}
 use Rattle.text.specs.Ascii.{ascii}
-use Rattle.text.specs.Hex.{hexText}
-use Rattle.say.specs.Texts.{spaced, refusalText, placeText}
+use Rattle.text.specs.Hex.{hex_text}
+use Rattle.say.specs.Texts.{spaced, refusal_text, place_text}
 use Rattle.sheet.specs.Got.{Got, got, refused}
 use Rattle.sheet.specs.Step.{Step}
 use Rattle.sheet.specs.Sheet.{flat}
-use Rattle.step.specs.Run.{runOp}
-use Rattle.panel.specs.Run.{Run, ended, stoppedAt, actionsOf, suits?, runSheet}
+use Rattle.step.specs.Run.{run_op}
+use Rattle.panel.specs.Run.{Run, ended, stopped_at, actions_of, suits?, run_sheet}
 use Rattle.step.specs.declared.show.Shown.{Shown}
 use Rattle.step.specs.Stopping.{stopping}
-use Rattle.desk.specs.Check.{Check, passed, refusedAt as refusedAtStep, checkSheet}
+use Rattle.desk.specs.Check.{Check, passed, refused_at as refused_at_step, check_sheet}
 use Rattle.desk.specs.Five.{flat as fives}
-use Rattle.sheet.specs.Answer.{Told, done, refusedAt, refusedBy, Plan, fill, stop}
+use Rattle.sheet.specs.Answer.{Told, done, refused_at, refused_by, Plan, fill, stop}
 
-abbrev pub refusedText : Told → List (List ℕ)
-refusedText (refusedAt r p) = ascii "refused at " ∷ placeText p r
-refusedText (refusedBy r) = refusalText r
-refusedText (done n) = []
+abbrev pub refused_text : Told → List (List ℕ)
+refused_text (refused_at r p) = ascii "refused at " ∷ place_text p r
+refused_text (refused_by r) = refusal_text r
+refused_text (done n) = []
 
-abbrev pub readSaid : Got (List Step) → List (List ℕ)
-readSaid (got xs end) = ascii "read" ∷ spaced (flat xs)
-readSaid (refused r p) = refusedText (refusedAt r p)
+abbrev pub read_said : Got (List Step) → List (List ℕ)
+read_said (got xs end) = ascii "read" ∷ spaced (flat xs)
+read_said (refused r p) = refused_text (refused_at r p)
 
 -- 5,378 bytes are room for any sheet (`sheet-size` of `sheet`)
-abbrev pub writeSaid : Plan ℕ → List (List ℕ)
-writeSaid (fill n bs) = pick (leb (length bs) 5378) (ascii "written " ∷ (hexText bs ∷ [])) (refusedText (refusedBy 16))
-writeSaid (stop t) = refusedText t
+abbrev pub write_said : Plan ℕ → List (List ℕ)
+write_said (fill n bs) = pick (leb (length bs) 5378) (ascii "written " ∷ (hex_text bs ∷ [])) (refused_text (refused_by 16))
+write_said (stop t) = refused_text t
 
 -- a run's numbers: those of all steps, or those before the one that stops
-abbrev pub ranSaid : Run → List (List ℕ)
-ranSaid (ended ns) = ascii "ended" ∷ spaced ns
-ranSaid (stoppedAt ns r) = ascii "stopped at " ∷ (placeText (length ns) (number_of r) ++ spaced ns)
+abbrev pub ran_said : Run → List (List ℕ)
+ran_said (ended ns) = ascii "ended" ∷ spaced ns
+ran_said (stopped_at ns r) = ascii "stopped at " ∷ (place_text (length ns) (number_of r) ++ spaced ns)
 
-abbrev pub runSaid : Got (List Step) → List ℤ → List (List ℕ)
-runSaid (got xs end) ins = pick (suits? (actionsOf xs) ins) (ranSaid (runSheet (runOp w64) ins xs)) (refusedText (refusedBy 15))
-runSaid (refused r p) ins = refusedText (refusedAt r p)
+abbrev pub run_said : Got (List Step) → List ℤ → List (List ℕ)
+run_said (got xs end) ins = pick (suits? (actions_of xs) ins) (ran_said (run_sheet (run_op w64) ins xs)) (refused_text (refused_by 15))
+run_said (refused r p) ins = refused_text (refused_at r p)
 
 -- a check's numbers, five a step: those of all steps, or those before the one that is refused
-abbrev pub checkedSaid : Check Shown → List (List ℕ)
-checkedSaid (passed vs) = ascii "passed" ∷ spaced (fives vs)
-checkedSaid (refusedAtStep vs r) = ascii "refused at step " ∷ (placeText (length vs) (number_of r) ++ spaced (fives vs))
+abbrev pub checked_said : Check Shown → List (List ℕ)
+checked_said (passed vs) = ascii "passed" ∷ spaced (fives vs)
+checked_said (refused_at_step vs r) = ascii "refused at step " ∷ (place_text (length vs) (number_of r) ++ spaced (fives vs))
 
-abbrev pub checkSaid : Got (List Step) → List (List ℕ)
-checkSaid (got xs end) = checkedSaid (checkSheet (stopping w64) xs)
-checkSaid (refused r p) = refusedText (refusedAt r p)
+abbrev pub check_said : Got (List Step) → List (List ℕ)
+check_said (got xs end) = checked_said (check_sheet (stopping w64) xs)
+check_said (refused r p) = refused_text (refused_at r p)

@@ -1,12 +1,12 @@
 // The text of an answer.
 ghost use Rattle.say.specs.Said.{Says};
-ghost use Rattle.ask.specs.Answer.{answerSaid};
+ghost use Rattle.ask.specs.Answer.{answer_said};
 
 use question::answer::Answer;
 
 // Puts the answer's text after `made` bytes, and answers the place after it.
 pub(crate) fn say(out: &mut [u8], made: usize, a: Answer) -> usize
-    ensures { Says (answerSaid a) out.old made out.new result }
+    ensures { Says (answer_said a) out.old made out.new result }
 {
     match a {
         Answer::Sign(s) => say::sign(out, made, s),

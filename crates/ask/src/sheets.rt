@@ -2,7 +2,7 @@
 ghost use Rattle.sheet.specs.Sheet.{parse};
 ghost use Rattle.sheet.specs.Answer.{writing};
 ghost use Rattle.say.specs.Said.{Says};
-ghost use Rattle.ask.specs.Sheets.{readSaid, writeSaid, runSaid, checkSaid};
+ghost use Rattle.ask.specs.Sheets.{read_said, write_said, run_said, check_said};
 
 use crate::take::{HexBytes, Many};
 use desk::CheckAnswer;
@@ -12,7 +12,7 @@ use sheet::{ReadAnswer, WriteAnswer};
 
 // What reading the bytes answers: 1,024 numbers are room for any sheet.
 fn read_bytes(bytes: &[u8], out: &mut [u8], made: usize) -> usize
-    ensures { Says (readSaid (parse bytes.now)) out.old made out.new result }
+    ensures { Says (read_said (parse bytes.now)) out.old made out.new result }
 {
     let mut steps = [0i64; 1024];
     match sheet::read(bytes, &mut steps) {
@@ -27,7 +27,7 @@ fn read_bytes(bytes: &[u8], out: &mut [u8], made: usize) -> usize
 
 // What writing the numbers answers: no sheet takes more bytes than that.
 fn write_numbers(steps: &[i64], out: &mut [u8], made: usize) -> usize
-    ensures { Says (writeSaid (writing steps.now)) out.old made out.new result }
+    ensures { Says (write_said (writing steps.now)) out.old made out.new result }
 {
     let mut bytes = [0u8; 5378];
     match sheet::write(steps, &mut bytes) {
@@ -51,7 +51,7 @@ fn write(line: &[u8], at: usize, out: &mut [u8], made: usize) -> usize {
 
 // What running the sheet on its inputs answers: 256 numbers are room for any run.
 fn run_inputs(bytes: &[u8], inputs: &[i64], out: &mut [u8], made: usize) -> usize
-    ensures { Says (runSaid (parse bytes.now) inputs.now) out.old made out.new result }
+    ensures { Says (run_said (parse bytes.now) inputs.now) out.old made out.new result }
 {
     let mut room = [0i64; 256];
     match panel::run(bytes, inputs, &mut room) {
@@ -70,7 +70,7 @@ fn run_inputs(bytes: &[u8], inputs: &[i64], out: &mut [u8], made: usize) -> usiz
 
 // What checking the bytes answers: 1,280 numbers are room for any sheet.
 fn check_bytes(bytes: &[u8], out: &mut [u8], made: usize) -> usize
-    ensures { Says (checkSaid (parse bytes.now)) out.old made out.new result }
+    ensures { Says (check_said (parse bytes.now)) out.old made out.new result }
 {
     let mut room = [0i64; 1280];
     match desk::check(bytes, &mut room) {

@@ -3,8 +3,8 @@ ghost use Rattle.std.specs.Prelude.{◌*◌, ◌≤◌, length};
 ghost use Rattle.sheet.specs.Sheet.{parse};
 ghost use Rattle.say.specs.Said.{Says, Prints};
 ghost use Rattle.say.specs.Texts.{numbered};
-ghost use Rattle.desk.specs.Five.{shownFirst};
-ghost use Rattle.check_sheet.specs.Text.{shownText, stepLine, checkText};
+ghost use Rattle.desk.specs.Five.{shown_first};
+ghost use Rattle.check_sheet.specs.Text.{shown_text, step_line, check_text};
 
 use desk::CheckAnswer;
 use step::show::Shown;
@@ -14,7 +14,7 @@ pub const ROOM: usize = 32768;
 
 // Range, spacing and sign.
 fn shown(out: &mut [u8], made: usize, v: Shown) -> usize
-    ensures { Says (shownText v) out.old made out.new result }
+    ensures { Says (shown_text v) out.old made out.new result }
 {
     let a = say::interval(out, made, v.range());
     let b = say::word(out, a, b" ");
@@ -25,7 +25,7 @@ fn shown(out: &mut [u8], made: usize, v: Shown) -> usize
 
 // The line of step k.
 fn line(out: &mut [u8], made: usize, k: usize, v: Shown) -> usize
-    ensures { Says (stepLine k v) out.old made out.new result }
+    ensures { Says (step_line k v) out.old made out.new result }
 {
     let a = say::natural(out, made, k as u64);
     let b = say::word(out, a, b" ");
@@ -36,7 +36,7 @@ fn line(out: &mut [u8], made: usize, k: usize, v: Shown) -> usize
 // The lines of the first n steps in the room.
 fn lines(out: &mut [u8], made: usize, room: &[i64], n: usize) -> usize
     requires { n * 5 ≤ length room.now }
-    ensures { Says (numbered stepLine 0 (shownFirst room.now n)) out.old made out.new result }
+    ensures { Says (numbered step_line 0 (shown_first room.now n)) out.old made out.new result }
 {
     let mut e = made;
     let mut k: usize = 0;
@@ -49,7 +49,7 @@ fn lines(out: &mut [u8], made: usize, room: &[i64], n: usize) -> usize
 
 // What the check of the bytes prints: 1,280 numbers are room for any sheet.
 fn check_text(bytes: &[u8], out: &mut [u8], made: usize) -> usize
-    ensures { Says (checkText (parse bytes.now)) out.old made out.new result }
+    ensures { Says (check_text (parse bytes.now)) out.old made out.new result }
 {
     let mut room = [0i64; 1280];
     match desk::check(bytes, &mut room) {
@@ -74,7 +74,7 @@ fn check_text(bytes: &[u8], out: &mut [u8], made: usize) -> usize
 
 // Puts what the check of the bytes prints, the whole of it, and answers how many bytes that are.
 pub fn check(bytes: &[u8], out: &mut [u8; ROOM]) -> usize
-    ensures { Prints (checkText (parse bytes.now)) out.old out.new result }
+    ensures { Prints (check_text (parse bytes.now)) out.old out.new result }
 {
     check_text(bytes, out, 0)
 }

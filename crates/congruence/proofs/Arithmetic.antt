@@ -11,21 +11,21 @@ use mir.Syntax.{Width}
 use mir.Val.{SFits}
 use Rattle.whole.specs.Choice.{pick}
 use Rattle.whole.specs.Range.{fits?}
-use Rattle.whole.specs.Divides.{◌∣ℤ◌, gcd, Cong, floorRem}
+use Rattle.whole.specs.Divides.{◌∣ℤ◌, gcd, Cong, floor_rem}
 use Rattle.whole.specs.Exact.{exactly}
 use Rattle.whole.specs.declared.Exact.{Exact}
 use Rattle.whole.specs.declared.Exact.TheVariants as exacts
 use Rattle.whole.proofs.Linear.{ints, wholes, read, abs}
 use Rattle.whole.proofs.Fits.{zero-fits}
-use Rattle.whole.proofs.Ring.{ring, natAbs-*ℤ, natAbs-zero, no_zero, mul-nonneg}
+use Rattle.whole.proofs.Ring.{ring, nat_abs-*ℤ, nat_abs-zero, no_zero, mul-nonneg}
 use Rattle.whole.proofs.Decides.{Decides, eq_test, both, either, branch, is_false, yes, fits-test, is-fit}
 use Rattle.whole.proofs.Divides.{∣-trans}
 use Rattle.whole.proofs.CommonDivisor.{is-gcd, gcd-left, gcd-right, gcd-n-0}
-use Rattle.whole.proofs.Congruence.{∣-natAbs, Cong-+, Cong-neg, Cong-*}
+use Rattle.whole.proofs.Congruence.{∣-nat_abs, Cong-+, Cong-neg, Cong-*}
 use Rattle.congruence.specs.declared.Congruence.{Congruence}
 use Rattle.congruence.specs.Set.{cong, top, bottom, bottom?, ◌∈◌, singles?, Proper}
-use Rattle.congruence.specs.Numbers.{gcdThen, formula}
-use Rattle.congruence.specs.Meaning.{Negation, Sum, Difference, Exactly, exact, formulaGcd, FormulaFits, ProductOf, product-of-nothing, by-formula, over-single, over-class}
+use Rattle.congruence.specs.Numbers.{gcd_then, formula}
+use Rattle.congruence.specs.Meaning.{Negation, Sum, Difference, Exactly, exact, formula_gcd, FormulaFits, ProductOf, product-of-nothing, by-formula, over-single, over-class}
 use Rattle.congruence.specs.Mended.{result_of, negative, sum, difference, over, product, beside}
 use Rattle.whole.proofs.Found.{found-is, found-fits, not_found}
 use Rattle.congruence.proofs.Sets.{clash, bottom-test, none, all, single-is, reduced-in, reduced-proper, canonical-modulus, canonical-positive, top-proper, bottom-proper}
@@ -180,8 +180,8 @@ pub record Combined (w : Width) (x y : Exact) (k : ℤ) : Type 0 where
   pub is : k ≡ pos (gcd (nat_abs left) (nat_abs right))
   pub fits : SFits w k
 
-pub combined : (w : Width) (x y : Exact) (k : ℤ) → gcdThen w x y ≡ exacts.Is k → Combined w x y k
-unfolding gcdThen
+pub combined : (w : Width) (x y : Exact) (k : ℤ) → gcd_then w x y ≡ exacts.Is k → Combined w x y k
+unfolding gcd_then
 combined w exacts.DoesNotFit y k h = let i : ◌≡◌ {A = ℕ} 0 1 = cc in absurd (omega arith)
 combined w (exacts.Is x) exacts.DoesNotFit k h = let i : ◌≡◌ {A = ℕ} 0 1 = cc in absurd (omega arith)
 combined w (exacts.Is x) (exacts.Is y) k h =
@@ -189,7 +189,7 @@ combined w (exacts.Is x) (exacts.Is y) k h =
     record { left = x; right = y; left_is = refl; right_is = refl; is = e; fits = subst (λ t. SFits w t) (sym e) (yes (fits-test w (pos (gcd (nat_abs x) (nat_abs y)))) (found-fits w (pos (gcd (nat_abs x) (nat_abs y))) k h)) }
 
 -- a result of the rules: the class, or what is shown instead
-pub result-cases : (P : Congruence → Type 0) (z g : Exact) (o : Congruence) → (z ≡ exacts.DoesNotFit → P o) → (g ≡ exacts.DoesNotFit → P o) → ((x k : ℤ) → z ≡ exacts.Is x → g ≡ exacts.Is k → P (cong (floorRem x k) k)) → P (result_of z g o)
+pub result-cases : (P : Congruence → Type 0) (z g : Exact) (o : Congruence) → (z ≡ exacts.DoesNotFit → P o) → (g ≡ exacts.DoesNotFit → P o) → ((x k : ℤ) → z ≡ exacts.Is x → g ≡ exacts.Is k → P (cong (floor_rem x k) k)) → P (result_of z g o)
 unfolding result_of
 result-cases P exacts.DoesNotFit g o f1 f2 f3 = f1 refl
 result-cases P (exacts.Is x) exacts.DoesNotFit o f1 f2 f3 = f2 refl
@@ -200,7 +200,7 @@ module _ (a b : Congruence) where
   first = gcd (nat_abs (a.modulus *ℤ b.modulus)) (nat_abs (a.modulus *ℤ b.constant))
 
   abbrev pub D : ℕ
-  D = formulaGcd a b
+  D = formula_gcd a b
 
   pub in-product : (x y : ℤ) → x ∈ a → y ∈ b → Cong D (x *ℤ y) (a.constant *ℤ b.constant)
   in-product x y h k =
@@ -209,19 +209,19 @@ module _ (a b : Congruence) where
       let d2 : pos D ∣ℤ pos (nat_abs (a.modulus *ℤ b.constant)) = ∣-trans l (gcd-right (nat_abs (a.modulus *ℤ b.modulus)) (nat_abs (a.modulus *ℤ b.constant))) in
       let d3 : pos D ∣ℤ pos (nat_abs (b.modulus *ℤ a.constant)) = gcd-right (gcd (nat_abs (a.modulus *ℤ b.modulus)) (nat_abs (a.modulus *ℤ b.constant))) (nat_abs (b.modulus *ℤ a.constant)) in
       Cong-* D x a.constant y b.constant
-      (subst (λ t. pos D ∣ℤ pos t) (natAbs-*ℤ a.modulus b.modulus) d1)
-      (∣-natAbs (a.constant *ℤ pos (nat_abs b.modulus)) (subst (λ t. pos D ∣ℤ pos t) (turned b.modulus a.constant) d3))
-      (∣-natAbs (b.constant *ℤ pos (nat_abs a.modulus)) (subst (λ t. pos D ∣ℤ pos t) (turned a.modulus b.constant) d2))
+      (subst (λ t. pos D ∣ℤ pos t) (nat_abs-*ℤ a.modulus b.modulus) d1)
+      (∣-nat_abs (a.constant *ℤ pos (nat_abs b.modulus)) (subst (λ t. pos D ∣ℤ pos t) (turned b.modulus a.constant) d3))
+      (∣-nat_abs (b.constant *ℤ pos (nat_abs a.modulus)) (subst (λ t. pos D ∣ℤ pos t) (turned a.modulus b.constant) d2))
       h.class k.class
     where
       turned : (m e : ℤ) → nat_abs (m *ℤ e) ≡ nat_abs (e *ℤ pos (nat_abs m))
-      turned m e = natAbs-*ℤ m e ∙ (mul_comm (nat_abs m) (nat_abs e) ∙ sym (natAbs-*ℤ e (pos (nat_abs m))))
+      turned m e = nat_abs-*ℤ m e ∙ (mul_comm (nat_abs m) (nat_abs e) ∙ sym (nat_abs-*ℤ e (pos (nat_abs m))))
 
 module _ (w : Width) (a b : Congruence) where
   pub formula-is : (k : ℤ) → formula w a b ≡ exacts.Is k → (k ≡ pos (D a b)) × SFits w k
   unfolding formula
   formula-is k h =
-      let p = combined w (gcdThen w (exactly w (a.modulus *ℤ b.modulus)) (exactly w (a.modulus *ℤ b.constant))) (exactly w (b.modulus *ℤ a.constant)) k h in
+      let p = combined w (gcd_then w (exactly w (a.modulus *ℤ b.modulus)) (exactly w (a.modulus *ℤ b.constant))) (exactly w (b.modulus *ℤ a.constant)) k h in
       let q = combined w (exactly w (a.modulus *ℤ b.modulus)) (exactly w (a.modulus *ℤ b.constant)) p.left p.left_is in (
         p.is ∙ ap₂ (λ s t. pos (gcd (nat_abs s) (nat_abs t)))
             (q.is ∙ ap₂ (λ s t. pos (gcd (nat_abs s) (nat_abs t))) (found-is w (a.modulus *ℤ b.modulus) q.left q.left_is) (found-is w (a.modulus *ℤ b.constant) q.right q.right_is))
@@ -231,7 +231,7 @@ module _ (w : Width) (a b : Congruence) where
 
   -- where the products fit the formula is the gcd of all three: of the first two it is beyond the width only if the third product is 0
   pub formula-of : pos 0 ≤ℤ a.modulus → pos 0 ≤ℤ b.modulus → SFits w (a.modulus *ℤ b.modulus) → SFits w (a.modulus *ℤ b.constant) → SFits w (b.modulus *ℤ a.constant) → formula w a b ≡ exactly w (pos (D a b))
-  unfolding formula gcdThen exactly
+  unfolding formula gcd_then exactly
   formula-of p q f g h = rw (is-fit f, is-fit g, is-fit h) (go (fits? w (pos (first a b))) refl)
     where
       positive : pos 0 ≤ℤ (a.modulus *ℤ b.modulus)
@@ -242,7 +242,7 @@ module _ (w : Width) (a b : Congruence) where
 
       -- if the first gcd is no number of the width, the moduli's product is 0
       none_first : (k : ℕ) → nat_abs (a.modulus *ℤ b.modulus) ≡ k → fits? w (pos (first a b)) ≡ false → a.modulus *ℤ b.modulus ≡ pos 0
-      none_first zero i e = natAbs-zero (a.modulus *ℤ b.modulus) i
+      none_first zero i e = nat_abs-zero (a.modulus *ℤ b.modulus) i
       none_first (suc k) i e = absurd (clash (sym (is-fit (divisor-fits w (first a b) (nat_abs (a.modulus *ℤ b.modulus)) (omega arith)
           (gcd-left (nat_abs (a.modulus *ℤ b.modulus)) (nat_abs (a.modulus *ℤ b.constant))) (subst (λ t. SFits w t) (sym own-abs) f))) ∙ e))
 
@@ -254,14 +254,14 @@ module _ (w : Width) (a b : Congruence) where
               ∙ (ap₂ (λ s t. gcd (nat_abs s) (nat_abs t)) (zero-*ℤ b.modulus) (zero-*ℤ b.constant) ∙ gcd-n-0 0)
       whole e (inr j) = ap (λ t. gcd (first a b) (nat_abs t)) (ap (λ n. n *ℤ a.constant) j ∙ zero-*ℤ a.constant) ∙ gcd-n-0 (first a b)
 
-      go : (t : Bool) → fits? w (pos (first a b)) ≡ t → gcdThen w (pick t (exacts.Is (pos (first a b))) exacts.DoesNotFit) (exacts.Is (b.modulus *ℤ a.constant)) ≡ exactly w (pos (D a b))
+      go : (t : Bool) → fits? w (pos (first a b)) ≡ t → gcd_then w (pick t (exacts.Is (pos (first a b))) exacts.DoesNotFit) (exacts.Is (b.modulus *ℤ a.constant)) ≡ exactly w (pos (D a b))
       go true e = refl
       go false e = let z = none_first (nat_abs (a.modulus *ℤ b.modulus)) refl e in
           rw (whole e (no_zero a.modulus b.modulus z), e) refl
 
   -- of two single numbers the formula is 0
   formula-zero : a.modulus ≡ pos 0 → b.modulus ≡ pos 0 → formula w a b ≡ exacts.Is (pos 0)
-  unfolding formula gcdThen exactly
+  unfolding formula gcd_then exactly
   formula-zero i j = rw (i, j, zero-*ℤ (pos 0), zero-*ℤ b.constant, zero-*ℤ a.constant, is-fit {w = w} zero-fits, gcd-n-0 0, is-fit {w = w} zero-fits, gcd-n-0 0, is-fit {w = w} zero-fits) refl
 
   pub product-covers : (x y : ℤ) → SFits w (x *ℤ y) → x ∈ a → y ∈ b → (x *ℤ y) ∈ product w a b
@@ -271,7 +271,7 @@ module _ (w : Width) (a b : Congruence) where
       (λ h. instead (λ i j. clash (sym (is-fit (subst (λ t. SFits w t) (ap₂ ◌*ℤ◌ (single-is a x i p) (single-is b y j q)) f)) ∙ not_found w (a.constant *ℤ b.constant) h)))
       (λ h. instead (λ i j. let z : ◌≡◌ {A = ℕ} 0 1 = cc (formula-zero i j) in omega arith))
       (λ u k h i. let e = (formula-is k i).0 in
-      subst (λ t. (x *ℤ y) ∈ cong (floorRem u t) t) (sym e) (reduced-in u (D a b) (x *ℤ y) (subst (λ t. Cong (D a b) (x *ℤ y) t) (sym (found-is w (a.constant *ℤ b.constant) u h)) (in-product a b x y p q)))))
+      subst (λ t. (x *ℤ y) ∈ cong (floor_rem u t) t) (sym e) (reduced-in u (D a b) (x *ℤ y) (subst (λ t. Cong (D a b) (x *ℤ y) t) (sym (found-is w (a.constant *ℤ b.constant) u h)) (in-product a b x y p q)))))
     where
       instead : (a.modulus ≡ pos 0 → b.modulus ≡ pos 0 → ⊥) → (x *ℤ y) ∈ pick (singles? a b) bottom top
       instead n = branch (singles-test a b) (λ t. (x *ℤ y) ∈ t) (λ s. absurd (n s.0 s.1)) (λ s. all (x *ℤ y))
@@ -280,7 +280,7 @@ module _ (w : Width) (a b : Congruence) where
   pub formula-fits : (x k : ℤ) → exactly w (a.constant *ℤ b.constant) ≡ exacts.Is x → formula w a b ≡ exacts.Is k → FormulaFits w a b
   unfolding formula
   formula-fits x k i h =
-      let p = combined w (gcdThen w (exactly w (a.modulus *ℤ b.modulus)) (exactly w (a.modulus *ℤ b.constant))) (exactly w (b.modulus *ℤ a.constant)) k h in
+      let p = combined w (gcd_then w (exactly w (a.modulus *ℤ b.modulus)) (exactly w (a.modulus *ℤ b.constant))) (exactly w (b.modulus *ℤ a.constant)) k h in
       let q = combined w (exactly w (a.modulus *ℤ b.modulus)) (exactly w (a.modulus *ℤ b.constant)) p.left p.left_is in record {
         moduli = found (a.modulus *ℤ b.modulus) q.left q.left_is;
         left = found (a.modulus *ℤ b.constant) q.right q.right_is;
@@ -298,7 +298,7 @@ module _ (w : Width) (a b : Congruence) where
       (λ n. result-cases (ProductOf w a b) (exactly w (a.constant *ℤ b.constant)) (formula w a b) _
       (λ h. instead n.0 n.1 (λ f. clash (sym (is-fit f.constants) ∙ not_found w (a.constant *ℤ b.constant) h)))
       (λ h. instead n.0 n.1 (λ f. clash (sym (is-fit f.divisor) ∙ not_found w (pos (D a b)) (sym (formula-of (canonical-positive a p.canonical) (canonical-positive b q.canonical) f.moduli f.left f.right) ∙ h))))
-      (λ x k h i. subst (ProductOf w a b) (sym (ap₂ (λ z g. cong (floorRem z g) g) (found-is w (a.constant *ℤ b.constant) x h) (formula-is k i).0)) (by-formula n.0 n.1 (formula-fits x k h i))))
+      (λ x k h i. subst (ProductOf w a b) (sym (ap₂ (λ z g. cong (floor_rem z g) g) (found-is w (a.constant *ℤ b.constant) x h) (formula-is k i).0)) (by-formula n.0 n.1 (formula-fits x k h i))))
     where
       instead : a ≢ bottom → b ≢ bottom → (FormulaFits w a b → ⊥) → ProductOf w a b (pick (singles? a b) bottom top)
       instead na nb f = branch (singles-test a b) (ProductOf w a b) (λ s. over-single s f) (λ s. over-class na nb (λ t. not-both t s) f)
@@ -310,7 +310,7 @@ module _ (w : Width) (a b : Congruence) where
       (λ u k h i.
       let r = formula-is k i in
       let e = found-is w (a.constant *ℤ b.constant) u h in
-      subst (λ t. Proper w (cong (floorRem u t) t)) (sym r.0) (reduced-proper w u (D a b) (λ z. subst (λ t. SFits w t) (sym e) (yes (fits-test w (a.constant *ℤ b.constant)) (found-fits w (a.constant *ℤ b.constant) u h))) (subst (λ t. SFits w t) r.0 r.1))))
+      subst (λ t. Proper w (cong (floor_rem u t) t)) (sym r.0) (reduced-proper w u (D a b) (λ z. subst (λ t. SFits w t) (sym e) (yes (fits-test w (a.constant *ℤ b.constant)) (found-fits w (a.constant *ℤ b.constant) u h))) (subst (λ t. SFits w t) r.0 r.1))))
     where
       instead : Proper w (pick (singles? a b) bottom top)
       instead = branch (singles-test a b) (Proper w) (λ s. bottom-proper w) (λ s. top-proper w)

@@ -13,12 +13,12 @@ use mir.Syntax.{Width, w64}
 use mir.Val.{SFits, to_z, of_z}
 use mir.Facts.{to_z-of_z}
 use Rattle.whole.specs.Range.{fits?}
-use Rattle.whole.specs.Divides.{gcd, floorRem}
+use Rattle.whole.specs.Divides.{gcd, floor_rem}
 use Rattle.whole.specs.Exact.{exactly}
 use Rattle.whole.specs.declared.Exact.{Exact}
 use Rattle.refusal.specs.Answer.{Answer, is}
 use Rattle.whole.specs.declared.Exact.TheVariants as exact
-use Rattle.congruence.specs.Numbers.{gcdThen, absThen, alike?, formula}
+use Rattle.congruence.specs.Numbers.{gcd_then, abs_then, alike?, formula}
 use Rattle.congruence.specs.Set.{cong}
 use Rattle.congruence.specs.Ported as ported
 use Rattle.congruence.specs.Mended as mended
@@ -52,18 +52,18 @@ module _ (u : Width) (x y : ℤ) (r : Exact) where
   quot-call = handed (λ s t. exactly u (quot_z s t)) x y r
 
 module _ (x y : ℤ) (r : Exact) where
-  pub gcd-call : r ≡ ported.gcdOf (to_z w64 (of_z w64 x)) (to_z w64 (of_z w64 y)) → SFits w64 x → SFits w64 y → r ≡ ported.gcdOf x y
-  gcd-call = handed ported.gcdOf x y r
+  pub gcd-call : r ≡ ported.gcd_of (to_z w64 (of_z w64 x)) (to_z w64 (of_z w64 y)) → SFits w64 x → SFits w64 y → r ≡ ported.gcd_of x y
+  gcd-call = handed ported.gcd_of x y r
 
-  pub lcm-call : r ≡ ported.lcmOf (to_z w64 (of_z w64 x)) (to_z w64 (of_z w64 y)) → SFits w64 x → SFits w64 y → r ≡ ported.lcmOf x y
-  lcm-call = handed ported.lcmOf x y r
+  pub lcm-call : r ≡ ported.lcm_of (to_z w64 (of_z w64 x)) (to_z w64 (of_z w64 y)) → SFits w64 x → SFits w64 y → r ≡ ported.lcm_of x y
+  lcm-call = handed ported.lcm_of x y r
 
 module _ (x y : ℤ) (r : ℤ) where
   pub rem-call : r ≡ rem_z (to_z w64 (of_z w64 x)) (to_z w64 (of_z w64 y)) → SFits w64 x → SFits w64 y → SFits w64 r → to_z w64 (of_z w64 r) ≡ rem_z x y
   rem-call h p q k = to_z-of_z k ∙ handed rem_z x y r h p q
 
-  pub floor-call : r ≡ floorRem (to_z w64 (of_z w64 x)) (to_z w64 (of_z w64 y)) → SFits w64 x → SFits w64 y → SFits w64 r → to_z w64 (of_z w64 r) ≡ floorRem x y
-  floor-call h p q k = to_z-of_z k ∙ handed floorRem x y r h p q
+  pub floor-call : r ≡ floor_rem (to_z w64 (of_z w64 x)) (to_z w64 (of_z w64 y)) → SFits w64 x → SFits w64 y → SFits w64 r → to_z w64 (of_z w64 r) ≡ floor_rem x y
+  floor-call h p q k = to_z-of_z k ∙ handed floor_rem x y r h p q
 
 module _ (x y : ℤ) where
   pub distance-call : (r : ℕ) → r ≡ nat_abs (to_z w64 (of_z w64 x) -ℤ to_z w64 (of_z w64 y)) → SFits w64 x → SFits w64 y → r ≡ nat_abs (x -ℤ y)
@@ -82,10 +82,10 @@ pub fits_told : (u : Width) (x : ℤ) (r t : Bool) → r ≡ fits? u (to_z w64 (
 fits_told u x r t h p q = sym (fits-call u x r h p) ∙ q
 
 -- of results of other calls
-pub gcd-then-call : (u : Width) (x k y n r : Exact) → r ≡ gcdThen u k n → k ≡ x → n ≡ y → r ≡ gcdThen u x y
+pub gcd-then-call : (u : Width) (x k y n r : Exact) → r ≡ gcd_then u k n → k ≡ x → n ≡ y → r ≡ gcd_then u x y
 gcd-then-call u x k y n r h p q = rw (p, q) at h
 
-pub abs-then-call : (u : Width) (x k r : Exact) → r ≡ absThen u k → k ≡ x → r ≡ absThen u x
+pub abs-then-call : (u : Width) (x k r : Exact) → r ≡ abs_then u k → k ≡ x → r ≡ abs_then u x
 abs-then-call u x k r h p = rw p at h
 
 pub exact-of-call : (u : Width) (n k : ℕ) (r : Exact) → r ≡ exactly u (pos k) → k ≡ n → r ≡ exactly u (pos n)
@@ -137,7 +137,7 @@ indivisible-call d k g n r h p q = rw (p, q) at h
 pub reduced-call : (c k : ℤ) (m n : Exact) (r : Answer Congruence) → r ≡ ported.reduced k n → k ≡ c → n ≡ m → r ≡ ported.reduced c m
 reduced-call c k m n r h p q = rw (p, q) at h
 
-pub on-truth-call : (s t : Answer Bool) (x k y n r : Answer Congruence) → r ≡ ported.onTruth t k n → t ≡ s → k ≡ x → n ≡ y → r ≡ ported.onTruth s x y
+pub on-truth-call : (s t : Answer Bool) (x k y n r : Answer Congruence) → r ≡ ported.on_truth t k n → t ≡ s → k ≡ x → n ≡ y → r ≡ ported.on_truth s x y
 on-truth-call s t x k y n r h o p q = rw (o, p, q) at h
 
 pub is-value : (v u : Congruence) → v ≡ u → is v ≡ is u
@@ -170,21 +170,21 @@ result-call z k g n over o v h p q s = rw (p, q, s) at h
 pub class-call : (u : Width) (z : ℤ) (m k : ℕ) (v : Congruence) → v ≡ mended.class_of u (to_z w64 (of_z w64 z)) k → SFits w64 z → k ≡ m → v ≡ mended.class_of u z m
 class-call u z m k v h p q = rw q at (simp (to_z-of_z p) at h)
 
-pub only-of-call : (z k : Exact) (v : Congruence) → v ≡ mended.onlyOf k → k ≡ z → v ≡ mended.onlyOf z
+pub only-of-call : (z k : Exact) (v : Congruence) → v ≡ mended.only_of k → k ≡ z → v ≡ mended.only_of z
 only-of-call z k v h p = rw p at h
 
 module _ (u : Width) (x y : ℤ) (m k : ℕ) (v : Congruence) where
-  pub sum-call : v ≡ mended.exactOf u (to_z w64 (of_z w64 x) +ℤ to_z w64 (of_z w64 y)) k → SFits w64 x → SFits w64 y → k ≡ m → v ≡ mended.exactOf u (x +ℤ y) m
+  pub sum-call : v ≡ mended.exact_of u (to_z w64 (of_z w64 x) +ℤ to_z w64 (of_z w64 y)) k → SFits w64 x → SFits w64 y → k ≡ m → v ≡ mended.exact_of u (x +ℤ y) m
   sum-call h p q e = rw e at (simp (to_z-of_z p, to_z-of_z q) at h)
 
-  pub difference-call : v ≡ mended.exactOf u (to_z w64 (of_z w64 x) -ℤ to_z w64 (of_z w64 y)) k → SFits w64 x → SFits w64 y → k ≡ m → v ≡ mended.exactOf u (x -ℤ y) m
+  pub difference-call : v ≡ mended.exact_of u (to_z w64 (of_z w64 x) -ℤ to_z w64 (of_z w64 y)) k → SFits w64 x → SFits w64 y → k ≡ m → v ≡ mended.exact_of u (x -ℤ y) m
   difference-call h p q e = rw e at (simp (to_z-of_z p, to_z-of_z q) at h)
 
-pub negative-call : (u : Width) (y : ℤ) (m k : ℕ) (v : Congruence) → v ≡ mended.exactOf u (pos 0 -ℤ to_z w64 (of_z w64 y)) k → SFits w64 y → k ≡ m → v ≡ mended.exactOf u (neg_ℤ y) m
+pub negative-call : (u : Width) (y : ℤ) (m k : ℕ) (v : Congruence) → v ≡ mended.exact_of u (pos 0 -ℤ to_z w64 (of_z w64 y)) k → SFits w64 y → k ≡ m → v ≡ mended.exact_of u (neg_ℤ y) m
 negative-call u y m k v h p e = rw e at (simp (to_z-of_z p, +ℤ_idl) at h)
 
-pub by-number-call : (u : Width) (a : Congruence) (k : ℤ) (v : Congruence) → v ≡ mended.byNumber u a (to_z w64 (of_z w64 k)) → SFits w64 k → v ≡ mended.byNumber u a k
-by-number-call u a = handed-1 (mended.byNumber u a)
+pub by-number-call : (u : Width) (a : Congruence) (k : ℤ) (v : Congruence) → v ≡ mended.by_number u a (to_z w64 (of_z w64 k)) → SFits w64 k → v ≡ mended.by_number u a k
+by-number-call u a = handed-1 (mended.by_number u a)
 
 pub has-call : (a : Congruence) (k : ℤ) (r t : Bool) → r ≡ mended.has? a (to_z w64 (of_z w64 k)) → SFits w64 k → r ≡ t → mended.has? a k ≡ t
 has-call a k r t h p q = sym (handed-1 (mended.has? a) k r h p) ∙ q

@@ -10,36 +10,36 @@ use Rattle.whole.proofs.Linear.{ints}
 use mir.Syntax.{Width}
 use Rattle.whole.proofs.Found.{found-is}
 use Rattle.whole.specs.Test.{◌≟◌}
-use Rattle.whole.specs.Divides.{gcd, floorRem}
+use Rattle.whole.specs.Divides.{gcd, floor_rem}
 use Rattle.whole.specs.Exact.{exactly}
 use Rattle.whole.specs.declared.Exact.{Exact}
 use Rattle.whole.specs.declared.Exact.TheVariants as exact
 use Rattle.refusal.specs.Answer.{Answer, is, refused}
 use Rattle.congruence.specs.declared.Congruence.{Congruence}
 use Rattle.congruence.specs.Set.{cong, top, bottom}
-use Rattle.congruence.specs.Numbers.{gcdThen, absThen}
+use Rattle.congruence.specs.Numbers.{gcd_then, abs_then}
 use Rattle.congruence.specs.Mended as mended
 use Rattle.congruence.specs.Ported as ported
 
 module _ (u : Width) (x y : Exact) where
-  pub gcd-none : x ≡ exact.DoesNotFit → ◌≡◌ {A = Exact} exact.DoesNotFit (gcdThen u x y)
-  unfolding gcdThen
+  pub gcd-none : x ≡ exact.DoesNotFit → ◌≡◌ {A = Exact} exact.DoesNotFit (gcd_then u x y)
+  unfolding gcd_then
   gcd-none p = rw p refl
 
-  pub gcd-none-2 : (a : ℤ) → x ≡ exact.Is a → y ≡ exact.DoesNotFit → ◌≡◌ {A = Exact} exact.DoesNotFit (gcdThen u x y)
-  unfolding gcdThen
+  pub gcd-none-2 : (a : ℤ) → x ≡ exact.Is a → y ≡ exact.DoesNotFit → ◌≡◌ {A = Exact} exact.DoesNotFit (gcd_then u x y)
+  unfolding gcd_then
   gcd-none-2 a p q = rw (p, q) refl
 
-  pub gcd-some : (a b : ℤ) (r : Exact) → x ≡ exact.Is a → y ≡ exact.Is b → r ≡ exactly u (pos (gcd (nat_abs a) (nat_abs b))) → r ≡ gcdThen u x y
-  unfolding gcdThen
+  pub gcd-some : (a b : ℤ) (r : Exact) → x ≡ exact.Is a → y ≡ exact.Is b → r ≡ exactly u (pos (gcd (nat_abs a) (nat_abs b))) → r ≡ gcd_then u x y
+  unfolding gcd_then
   gcd-some a b r p q h = rw (p, q) h
 
-pub abs-none : (u : Width) (x : Exact) → x ≡ exact.DoesNotFit → ◌≡◌ {A = Exact} exact.DoesNotFit (absThen u x)
-unfolding absThen
+pub abs-none : (u : Width) (x : Exact) → x ≡ exact.DoesNotFit → ◌≡◌ {A = Exact} exact.DoesNotFit (abs_then u x)
+unfolding abs_then
 abs-none u x p = rw p refl
 
-pub abs-some : (u : Width) (x : Exact) (a : ℤ) (r : Exact) → x ≡ exact.Is a → r ≡ exactly u (pos (nat_abs a)) → r ≡ absThen u x
-unfolding absThen
+pub abs-some : (u : Width) (x : Exact) (a : ℤ) (r : Exact) → x ≡ exact.Is a → r ≡ exactly u (pos (nat_abs a)) → r ≡ abs_then u x
+unfolding abs_then
 abs-some u x a r p h = rw p h
 
 -- ---- ported
@@ -83,20 +83,20 @@ module _ (d g : Exact) where
   indivisible-some k n t p q h = rw (p, q) (ap is h)
 
 module _ (t : Answer Bool) (x y : Answer Congruence) where
-  pub on-refused : (n : ℕ) → t ≡ refused n → refused n ≡ ported.onTruth t x y
-  unfolding ported.onTruth
+  pub on-refused : (n : ℕ) → t ≡ refused n → refused n ≡ ported.on_truth t x y
+  unfolding ported.on_truth
   on-refused n p = rw p refl
 
-  pub on-true : (b : Bool) → t ≡ is b → b ≡ true → x ≡ ported.onTruth t x y
-  unfolding ported.onTruth
+  pub on-true : (b : Bool) → t ≡ is b → b ≡ true → x ≡ ported.on_truth t x y
+  unfolding ported.on_truth
   on-true b p q = rw (p, q) refl
 
-  pub on-false : (b : Bool) → t ≡ is b → b ≡ false → y ≡ ported.onTruth t x y
-  unfolding ported.onTruth
+  pub on-false : (b : Bool) → t ≡ is b → b ≡ false → y ≡ ported.on_truth t x y
+  unfolding ported.on_truth
   on-false b p q = rw (p, q) refl
 
-  pub on-false-made : (b : Bool) (r : Answer Congruence) → t ≡ is b → b ≡ false → r ≡ y → r ≡ ported.onTruth t x y
-  unfolding ported.onTruth
+  pub on-false-made : (b : Bool) (r : Answer Congruence) → t ≡ is b → b ≡ false → r ≡ y → r ≡ ported.on_truth t x y
+  unfolding ported.on_truth
   on-false-made b r p q e = rw (p, q) e
 
 pub reduced-none : (c : ℤ) (m : Exact) → m ≡ exact.DoesNotFit → refused 2 ≡ ported.reduced c m
@@ -109,11 +109,11 @@ reduced-some c m n v p h = rw p (ap is h)
 
 module _ (a b : Congruence) (s : Answer Congruence) (h : s ≡ ported.negated b) where
   pub subtract-some : (v : Congruence) (r : Answer Congruence) → s ≡ is v → r ≡ ported.added a v → r ≡ ported.subtracted a b
-  unfolding ported.subtracted ported.addedTo
+  unfolding ported.subtracted ported.added_to
   subtract-some v r p q = rw (sym h ∙ p) q
 
   pub subtract-none : (n : ℕ) → s ≡ refused n → refused n ≡ ported.subtracted a b
-  unfolding ported.subtracted ported.addedTo
+  unfolding ported.subtracted ported.added_to
   subtract-none n p = rw (sym h ∙ p) refl
 
 -- ---- mended
@@ -127,29 +127,29 @@ module _ (z g : Exact) (over : Congruence) where
   unfolding mended.result_of
   result-none-2 k p q = rw (p, q) refl
 
-  pub result-some : (k n : ℤ) (v : Congruence) → z ≡ exact.Is k → g ≡ exact.Is n → v ≡ cong (floorRem k n) n → v ≡ mended.result_of z g over
+  pub result-some : (k n : ℤ) (v : Congruence) → z ≡ exact.Is k → g ≡ exact.Is n → v ≡ cong (floor_rem k n) n → v ≡ mended.result_of z g over
   unfolding mended.result_of
   result-some k n v p q h = rw (p, q) h
 
 pub ruleset result-cases = (result-none, result-none-2, result-some)
 
-pub only_none : (z : Exact) → z ≡ exact.DoesNotFit → bottom ≡ mended.onlyOf z
-unfolding mended.onlyOf
+pub only_none : (z : Exact) → z ≡ exact.DoesNotFit → bottom ≡ mended.only_of z
+unfolding mended.only_of
 only_none z p = rw p refl
 
-pub only-some : (z : Exact) (k : ℤ) (v : Congruence) → z ≡ exact.Is k → v ≡ cong k (pos 0) → v ≡ mended.onlyOf z
-unfolding mended.onlyOf
+pub only-some : (z : Exact) (k : ℤ) (v : Congruence) → z ≡ exact.Is k → v ≡ cong k (pos 0) → v ≡ mended.only_of z
+unfolding mended.only_of
 only-some z k v p h = rw p h
 
 pub ruleset only-cases = (only_none, only-some)
 
 module _ (u : Width) (z : ℤ) (m : ℕ) (r : Exact) (some : m ≡ 0 → ⊥) (h : r ≡ exactly u (pos m)) where
-  pub class-none : r ≡ exact.DoesNotFit → top ≡ mended.exactOf u z m
-  unfolding mended.exactOf mended.class_of mended.result_of
+  pub class-none : r ≡ exact.DoesNotFit → top ≡ mended.exact_of u z m
+  unfolding mended.exact_of mended.class_of mended.result_of
   class-none p = rw (ne_eqb m 0 some, sym h ∙ p) refl
 
-  pub class-some : (k : ℤ) (v : Congruence) → r ≡ exact.Is k → v ≡ cong (floorRem z k) k → v ≡ mended.exactOf u z m
-  unfolding mended.exactOf mended.class_of mended.result_of
+  pub class-some : (k : ℤ) (v : Congruence) → r ≡ exact.Is k → v ≡ cong (floor_rem z k) k → v ≡ mended.exact_of u z m
+  unfolding mended.exact_of mended.class_of mended.result_of
   class-some k v p e = rw (ne_eqb m 0 some, sym h ∙ p) e
 
   pub above_zero : (k : ℤ) → r ≡ exact.Is k → pos 0 <ℤ k

@@ -22,8 +22,8 @@ use Rattle.congruence.specs.declared.OrderAnswer.{OrderAnswer}
 use Rattle.congruence.specs.declared.OrderAnswer.TheVariants as orders
 use Rattle.congruence.specs.declared.SingleAnswer.{SingleAnswer}
 use Rattle.congruence.specs.declared.SingleAnswer.TheVariants as singles
-use Rattle.congruence.specs.Set.{bottom, ◌∈◌, ◌⊆◌, domain?, domainAt?, Value, InDomain, Canonical, form, Proper}
-use Rattle.congruence.specs.Answer.{told, truthTold, orderTold, singleTold}
+use Rattle.congruence.specs.Set.{bottom, ◌∈◌, ◌⊆◌, domain?, domain_at?, Value, InDomain, Canonical, form, Proper}
+use Rattle.congruence.specs.Answer.{told, truth_told, order_told, single_told}
 use Rattle.congruence.specs.Meaning.{Answers, outside, inside, Both, Mends, Disjoint, Ordered, equal, less, greater, unordered, JoinOf, MeetOf, Negation, Sum, Difference, Exactly, ProductOf, CoversProducts, QuotientOf, CoversQuotients, EqualityOf, ComparisonOf, Shows}
 use Rattle.congruence.specs.Mended as mended
 use Rattle.congruence.proofs.Sets.{form_in, form-out, form-proper, domain-at-test}
@@ -43,19 +43,19 @@ answer-fixed (value.Is u) (value.Refused r) e = let z : ◌≡◌ {A = ℕ} 0 1 
 answer-fixed (value.Refused q) (value.Is v) e = let z : ◌≡◌ {A = ℕ} 0 1 = cc in absurd (omega arith)
 answer-fixed (value.Refused q) (value.Refused r) e = ap value.Refused (number-tells q r cc)
 
-pub truth-fixed : (r s : TruthAnswer) → truthTold r ≡ truthTold s → r ≡ s
+pub truth-fixed : (r s : TruthAnswer) → truth_told r ≡ truth_told s → r ≡ s
 truth-fixed (truths.Is u) (truths.Is v) e = cc
 truth-fixed (truths.Is u) (truths.Refused r) e = let z : ◌≡◌ {A = ℕ} 0 1 = cc in absurd (omega arith)
 truth-fixed (truths.Refused q) (truths.Is v) e = let z : ◌≡◌ {A = ℕ} 0 1 = cc in absurd (omega arith)
 truth-fixed (truths.Refused q) (truths.Refused r) e = ap truths.Refused (number-tells q r cc)
 
-pub order-fixed : (r s : OrderAnswer) → orderTold r ≡ orderTold s → r ≡ s
+pub order-fixed : (r s : OrderAnswer) → order_told r ≡ order_told s → r ≡ s
 order-fixed (orders.Is u) (orders.Is v) e = cc
 order-fixed (orders.Is u) (orders.Refused r) e = let z : ◌≡◌ {A = ℕ} 0 1 = cc in absurd (omega arith)
 order-fixed (orders.Refused q) (orders.Is v) e = let z : ◌≡◌ {A = ℕ} 0 1 = cc in absurd (omega arith)
 order-fixed (orders.Refused q) (orders.Refused r) e = ap orders.Refused (number-tells q r cc)
 
-pub single-fixed : (r s : SingleAnswer) → singleTold r ≡ singleTold s → r ≡ s
+pub single-fixed : (r s : SingleAnswer) → single_told r ≡ single_told s → r ≡ s
 single-fixed (singles.Is u) (singles.Is v) e = cc
 single-fixed (singles.Is u) singles.None e = let z : ◌≡◌ {A = ℕ} 0 1 = cc in absurd (omega arith)
 single-fixed (singles.Is u) (singles.Refused r) e = let z : ◌≡◌ {A = ℕ} 0 1 = cc in absurd (omega arith)
@@ -89,15 +89,15 @@ domain-is a = (yes (sets.value-test a), λ v. is_true (sets.value-test a) (λ f.
 
 module _ (w : Width) (a : Congruence) where
   -- it has just the values of the domain both whose numbers are of the width
-  pub domain-of-width : domainAt? w a ≡ true ↔ InDomain w a
+  pub domain-of-width : domain_at? w a ≡ true ↔ InDomain w a
   domain-of-width = (yes (domain-at-test w a), λ d. is_true (domain-at-test w a) (λ f. f d))
 
-  pub outside-of-width : domainAt? w a ≡ false ↔ (InDomain w a → ⊥)
+  pub outside-of-width : domain_at? w a ≡ false ↔ (InDomain w a → ⊥)
   outside-of-width = (no (domain-at-test w a), λ f. is_false (domain-at-test w a) f)
 
 -- at 64 bits it is the domain: every i64 fits
-pub domain-at-64 : (a : Congruence) → SFits w64 a.constant → SFits w64 a.modulus → domainAt? w64 a ≡ domain? a
-unfolding domainAt?
+pub domain-at-64 : (a : Congruence) → SFits w64 a.constant → SFits w64 a.modulus → domain_at? w64 a ≡ domain? a
+unfolding domain_at?
 domain-at-64 a f g = rw (is-fit f, is-fit g) (go (domain? a))
   where
     go : (t : Bool) → (t && true) ≡ t
@@ -107,7 +107,7 @@ domain-at-64 a f g = rw (is-fit f, is-fit g) (go (domain? a))
 -- ---- how an operation on canonical forms answers
 
 module _ {A : Type 0} (w : Width) (a b : Congruence) (f : Congruence → Congruence → A) (P : A → Type 0) where
-  answers : (InDomain w a → InDomain w b → P (f (form a) (form b))) → Answers A (Both w a b) P (mended.onForms w f a b)
+  answers : (InDomain w a → InDomain w b → P (f (form a) (form b))) → Answers A (Both w a b) P (mended.on_forms w f a b)
   answers g = branch (both (domain-at-test w a) (domain-at-test w b)) (Answers A (Both w a b) P) (λ d. inside (f (form a) (form b)) d (g d.0 d.1)) (λ n. outside (λ d. not-both d n))
 
 -- ---- the mended lattice
@@ -176,20 +176,20 @@ module _ (w : Width) (a b : Congruence) where
 
 -- bottom in, bottom out
 module _ (w : Width) (a : Congruence) (d : InDomain w a) where
-  in-it : (v : Congruence) → InDomain w v → domainAt? w v ≡ true
+  in-it : (v : Congruence) → InDomain w v → domain_at? w v ≡ true
   in-it v i = is_true (domain-at-test w v) (λ f. f i)
 
-  bottom-in-it : domainAt? w bottom ≡ true
+  bottom-in-it : domain_at? w bottom ≡ true
   bottom-in-it = in-it bottom (sets.proper-domain w bottom (sets.bottom-proper w))
 
   form-bottom : form bottom ≡ bottom
   form-bottom = sets.form-is bottom (sets.bottom-proper w).canonical
 
   module _ (f : Congruence → Congruence → Congruence) where
-    left-bottom : f bottom (form a) ≡ bottom → mended.onForms w f bottom a ≡ is bottom
+    left-bottom : f bottom (form a) ≡ bottom → mended.on_forms w f bottom a ≡ is bottom
     left-bottom h = rw (bottom-in-it, in-it a d, form-bottom) (ap is h)
 
-    right-bottom : f (form a) bottom ≡ bottom → mended.onForms w f a bottom ≡ is bottom
+    right-bottom : f (form a) bottom ≡ bottom → mended.on_forms w f a bottom ≡ is bottom
     right-bottom h = rw (in-it a d, bottom-in-it, form-bottom) (ap is h)
 
   pub neg-bottom : mended.neg w bottom ≡ is bottom
@@ -221,7 +221,7 @@ module _ (w : Width) (a b : Congruence) where
       (comparisons.equality-proper (form a) (form b) w, (forms.equality-of a b _ (comparisons.equality-is (form a) (form b)), λ x y h k. comparisons.equality-right (form a) (form b) x y (form_in a x h) (form_in b y k))))
 
   -- as 002: two single numbers are compared, all else gives top; they show the truth of every pair
-  compared : (test : ℤ → ℤ → Bool) → Mends w (Both w a b) (λ v. ComparisonOf test a b v × Shows test a b v) (mended.onForms w (mended.comparison test) a b)
+  compared : (test : ℤ → ℤ → Bool) → Mends w (Both w a b) (λ v. ComparisonOf test a b v × Shows test a b v) (mended.on_forms w (mended.comparison test) a b)
   compared test = answers w a b (mended.comparison test) (λ v. Proper w v × (ComparisonOf test a b v × Shows test a b v)) (λ p q.
       (comparisons.comparison-proper (form a) (form b) w test, (forms.comparison-of a b test _ (comparisons.comparison-is (form a) (form b) test), λ x y h k. comparisons.comparison-right (form a) (form b) test x y (form_in a x h) (form_in b y k))))
 
@@ -231,8 +231,8 @@ module _ (w : Width) (a b : Congruence) where
   pub greater-right : Mends w (Both w a b) (λ v. ComparisonOf (λ x y. y <? x) a b v × Shows (λ x y. y <? x) a b v) (mended.greater w a b)
   greater-right = compared (λ x y. y <? x)
 
-  pub less-or-equal-right : Mends w (Both w a b) (λ v. ComparisonOf ◌≤?◌ a b v × Shows ◌≤?◌ a b v) (mended.lessOrEqual w a b)
+  pub less-or-equal-right : Mends w (Both w a b) (λ v. ComparisonOf ◌≤?◌ a b v × Shows ◌≤?◌ a b v) (mended.less_or_equal w a b)
   less-or-equal-right = compared ◌≤?◌
 
-  pub greater-or-equal-right : Mends w (Both w a b) (λ v. ComparisonOf (λ x y. y ≤? x) a b v × Shows (λ x y. y ≤? x) a b v) (mended.greaterOrEqual w a b)
+  pub greater-or-equal-right : Mends w (Both w a b) (λ v. ComparisonOf (λ x y. y ≤? x) a b v × Shows (λ x y. y ≤? x) a b v) (mended.greater_or_equal w a b)
   greater-or-equal-right = compared (λ x y. y ≤? x)

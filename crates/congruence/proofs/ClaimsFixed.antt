@@ -18,7 +18,7 @@ use Rattle.whole.proofs.Decides.{Decides, holds, fails, Beyond, eq_test, lt_test
 use Rattle.refusal.specs.Answer.{Answer, is}
 use Rattle.congruence.specs.declared.Congruence.{Congruence}
 use Rattle.congruence.specs.Set.{cong, bottom, ◌∈◌, ◌⊆◌, Proper}
-use Rattle.congruence.specs.Meaning.{Answers, outside, inside, Shared, Disjoint, Ordered, equal, less, greater, unordered, Singles, Far, JoinOf, lcmOf, MeetOf, Exactly, exact, over, class_at, ProductOf, product-of-nothing, by-formula, over-single, over-class, QuotientOf, quotient-of-nothing, by_zero, least_by_minus_one, divided, undivided, OneNumber, EqualityOf, ComparisonOf}
+use Rattle.congruence.specs.Meaning.{Answers, outside, inside, Shared, Disjoint, Ordered, equal, less, greater, unordered, Singles, Far, JoinOf, lcm_of, MeetOf, Exactly, exact, over, class_at, ProductOf, product-of-nothing, by-formula, over-single, over-class, QuotientOf, quotient-of-nothing, by_zero, least_by_minus_one, divided, undivided, OneNumber, EqualityOf, ComparisonOf}
 use Rattle.congruence.proofs.Sets.{own}
 use Rattle.congruence.proofs.Lattice.{unique, apart-test}
 use Rattle.congruence.proofs.Arithmetic.{singles-test, not-both, nor}
@@ -60,9 +60,9 @@ module _ (w : Width) (u v : Congruence) (p : Proper w u) (q : Proper w v) where
 
   -- meet
   pub meet_one : (a b : Congruence) → MeetOf w a b u → MeetOf w a b v → u ≡ v
-  meet_one a b i j = go (fits-test w (lcmOf a b)) (apart-test a b)
+  meet_one a b i j = go (fits-test w (lcm_of a b)) (apart-test a b)
     where
-      go : {s t : Bool} → Decides (SFits w (lcmOf a b)) (Beyond w (lcmOf a b)) s → Decides (Disjoint a b) (Shared a b) t → u ≡ v
+      go : {s t : Bool} → Decides (SFits w (lcm_of a b)) (Beyond w (lcm_of a b)) s → Decides (Disjoint a b) (Shared a b) t → u ≡ v
       go (holds f) d = same (λ x h. (j.common f x).1 ((i.common f x).0 h)) (λ x h. (i.common f x).1 ((j.common f x).0 h))
       go (fails f) (holds d) = i.none d ∙ sym (j.none d)
       go (fails f) (fails s) = i.left (λ g. not_beyond g f) s ∙ sym (j.left (λ g. not_beyond g f) s)

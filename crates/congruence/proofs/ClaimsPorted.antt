@@ -12,7 +12,7 @@ use Rattle.whole.proofs.Decides.{yes, no}
 use Rattle.refusal.specs.Answer.{is}
 use Rattle.congruence.specs.declared.Congruence.{Congruence}
 use Rattle.congruence.specs.Set.{cong, top, bottom, bottom?, ◌∈◌, ◌⊆◌, domain?, InDomain, Proper}
-use Rattle.congruence.specs.Numbers.{absThen, alike?}
+use Rattle.congruence.specs.Numbers.{abs_then, alike?}
 use Rattle.congruence.specs.Meaning.{Both, Disjoint, Negation, Sum, Difference, Ports, Fits, Just, Least, JoinOver, NegOver, NegAsserts, AddOver, DifferenceOver, MulOver, PortedProduct, CoversProducts, QuotientOver, QuotientAsserts, PortedQuotient, CoversQuotients}
 use Rattle.congruence.specs.Mended as mended
 use Rattle.congruence.specs.Ported as ported
@@ -75,7 +75,7 @@ pub error-5 : (minus_one ⊆ two-of-three)
     × (ported.equals minus_one two-of-three ≡ is (cong (pos 0) (pos 0)))
     × (ported.partial_cmp minus_one two-of-three ≡ is None)
     × (ported.meet minus_one two-of-three ≡ is bottom)
-unfolding domain? bottom? ◌≟◌ ◌<?◌ ported.separated ported.equated ported.onTruth ported.ordered ported.same? ported.below? ported.met mended.inside? mended.has? alike?
+unfolding domain? bottom? ◌≟◌ ◌<?◌ ported.separated ported.equated ported.on_truth ported.ordered ported.same? ported.below? ported.met mended.inside? mended.has? alike?
 error-5 = (yes (lattice.inside-test minus_one two-of-three) refl, refl, refl, refl, refl)
 
 -- and `disjoint` takes the bottom for numbers: it stands for none, yet isn't disjoint from top
@@ -86,7 +86,7 @@ error-5-bottom = (λ x h k. sets.none x h, refl)
 -- error 6: the meet keeps the left constant: 5 is common to (1, 2) and (2, 3), and not in (1, 6)
 pub error-6 : (ported.meet (cong (pos 1) (pos 2)) two-of-three ≡ is (cong (pos 1) (pos 6)))
     × (pos 5 ∈ cong (pos 1) (pos 2)) × (pos 5 ∈ two-of-three) × (pos 5 ∈ cong (pos 1) (pos 6) → ⊥)
-unfolding domain? bottom? ◌≟◌ ◌<?◌ ◌≤?◌ ported.met ported.metClasses ported.onTruth ported.indivisible ported.reduced ported.normalize absThen exactly fits? gcd lcm steps mended.has? alike?
+unfolding domain? bottom? ◌≟◌ ◌<?◌ ◌≤?◌ ported.met ported.met_classes ported.on_truth ported.indivisible ported.reduced ported.normalize abs_then exactly fits? gcd lcm steps mended.has? alike?
 error-6 = (
   refl,
   yes (lattice.has-test (cong (pos 1) (pos 2)) (pos 5) refl) refl,

@@ -12,11 +12,11 @@ use mir.Val.{hbits}
 use Rattle.whole.proofs.Products.{natural-fits}
 use Rattle.whole.specs.Choice.{pick}
 use Rattle.whole.specs.Range.{fits?}
-use Rattle.whole.specs.Divides.{◌∣ℤ◌, gcd, lcm, Cong, floorRem}
+use Rattle.whole.specs.Divides.{◌∣ℤ◌, gcd, lcm, Cong, floor_rem}
 use Rattle.whole.proofs.Linear.{ints, abs}
 use Rattle.whole.proofs.Divides.{∣-trans, zero-∣, ∣-≤}
 use Rattle.whole.proofs.CommonDivisor.{exact, gcd-left, lcm-left, lcm-right, lcm-least, lcm-comm}
-use Rattle.whole.proofs.Congruence.{∣-natAbs, ∣-to-natAbs, Cong-sym, Cong-trans, meet-needs, meet-at, meet_left, meet_right}
+use Rattle.whole.proofs.Congruence.{∣-nat_abs, ∣-to-nat_abs, Cong-sym, Cong-trans, meet-needs, meet-at, meet_left, meet_right}
 use Rattle.whole.proofs.Decides.{Decides, eqb-test, both, yes, is_true, is_false, weaken}
 use Rattle.whole.proofs.Floor.{floor-low, floor-high, floor-class, same-residue}
 use Rattle.congruence.specs.declared.Congruence.{Congruence}
@@ -32,23 +32,23 @@ unfolding alike?
 alike-test m x y = weaken there apart (eqb-test (nat_abs (x -ℤ y) % m) 0)
   where
     there : nat_abs (x -ℤ y) % m ≡ 0 → Cong m x y
-    there e = ∣-natAbs (x -ℤ y) (record { by = pos (nat_abs (x -ℤ y) / m); is = ap pos (let f = div-add-mod' (nat_abs (x -ℤ y)) m in omega arith) })
+    there e = ∣-nat_abs (x -ℤ y) (record { by = pos (nat_abs (x -ℤ y) / m); is = ap pos (let f = div-add-mod' (nat_abs (x -ℤ y)) m in omega arith) })
 
     apart : nat_abs (x -ℤ y) % m ≢ 0 → Cong m x y → ⊥
-    apart f h = f (let e = exact (nat_abs (x -ℤ y)) m (∣-to-natAbs (x -ℤ y) h) in omega (arith, div-add-mod' (nat_abs (x -ℤ y)) m))
+    apart f h = f (let e = exact (nat_abs (x -ℤ y)) m (∣-to-nat_abs (x -ℤ y) h) in omega (arith, div-add-mod' (nat_abs (x -ℤ y)) m))
 
 -- ---- what a number leaves
 
 module _ (c : ℤ) (p : ℕ) (h : 0 < p) where
   pub left_over : ℕ
-  left_over = nat_abs (floorRem c (pos p))
+  left_over = nat_abs (floor_rem c (pos p))
 
   some : pos p ≢ pos 0
   some = omega ints
 
-  pub left_is : pos left_over ≡ floorRem c (pos p)
+  pub left_is : pos left_over ≡ floor_rem c (pos p)
   unfolding left_over
-  left_is = let l = floor-low c (pos p) some in omega (ints, abs (floorRem c (pos p)))
+  left_is = let l = floor-low c (pos p) some in omega (ints, abs (floor_rem c (pos p)))
 
   pub left_below : left_over < p
   left_below = let l = floor-high c (pos p) some in omega (ints, left_is)
@@ -56,7 +56,7 @@ module _ (c : ℤ) (p : ℕ) (h : 0 < p) where
   pub left-class : Cong p (pos left_over) c
   left-class = subst (λ t. Cong p t c) (sym left_is) (floor-class c (pos p))
 
-pub left_by : (c : ℤ) (p k : ℕ) → 0 < p → k ≡ nat_abs (floorRem c (pos p)) → (k < p) × Cong p (pos k) c
+pub left_by : (c : ℤ) (p k : ℕ) → 0 < p → k ≡ nat_abs (floor_rem c (pos p)) → (k < p) × Cong p (pos k) c
 unfolding left_over
 left_by c p k h e = subst (λ t. (t < p) × Cong p (pos t) c) (sym e) (left_below c p h, left-class c p h)
 

@@ -9,7 +9,7 @@ use Rattle.whole.specs.Test.{truth}
 use Rattle.whole.specs.Divides.{lcm}
 use Rattle.congruence.specs.declared.Congruence.{Congruence}
 use Rattle.congruence.specs.Set.{cong, Value, single, form}
-use Rattle.congruence.specs.Meaning.{Shared, Disjoint, Singles, Far, JoinOf, lcmOf, MeetOf, Negation, Sum, Difference, Exactly, exact, over, OneNumber, EqualityOf, ComparisonOf}
+use Rattle.congruence.specs.Meaning.{Shared, Disjoint, Singles, Far, JoinOf, lcm_of, MeetOf, Negation, Sum, Difference, Exactly, exact, over, OneNumber, EqualityOf, ComparisonOf}
 use Rattle.congruence.proofs.Sets.{form_in, form-out, form-is, form-canonical, form-modulus}
 
 -- ---- results
@@ -85,7 +85,7 @@ module _ (a b : Congruence) where
     left = λ f s. j.left (λ g. f (subst (SFits w) lcm-is g)) (shared_of.1 s) ∙ form-is (form a) (form-canonical a d);
   }
     where
-      lcm-is : lcmOf (form a) (form b) ≡ lcmOf a b
+      lcm-is : lcm_of (form a) (form b) ≡ lcm_of a b
       lcm-is = ap (λ m. pos (lcm (nat_abs m) (nat_abs (form b).modulus))) (form-modulus a) ∙ ap (λ n. pos (lcm (nat_abs a.modulus) (nat_abs n))) (form-modulus b)
 
   -- ---- comparisons

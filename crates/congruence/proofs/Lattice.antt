@@ -15,13 +15,13 @@ use Rattle.whole.proofs.Fits.{machine, range, zero-fits}
 use Rattle.whole.proofs.Decides.{Decides, holds, fails, Beyond, eq_test, both, either, isn't, weaken, branch, is_true, is_false, yes, no, fits-test, not_beyond, is-fit}
 use Rattle.whole.proofs.Divides.{∣-trans, ∣-antisym, ∣-≤}
 use Rattle.whole.proofs.CommonDivisor.{gcd-left, gcd-right, gcd-n-0, gcd-0-n}
-use Rattle.whole.proofs.Ring.{natAbs-zero}
-use Rattle.whole.proofs.Congruence.{∣-at, ∣-natAbs, ∣-to-natAbs, Cong-sym, Cong-trans, join-left, join-right, join-best, meet-needs, meet-at, meet_left, meet_right, meet-class}
+use Rattle.whole.proofs.Ring.{nat_abs-zero}
+use Rattle.whole.proofs.Congruence.{∣-at, ∣-nat_abs, ∣-to-nat_abs, Cong-sym, Cong-trans, join-left, join-right, join-best, meet-needs, meet-at, meet_left, meet_right, meet-class}
 use Rattle.whole.proofs.Floor.{same-residue}
 use Rattle.congruence.specs.declared.Congruence.{Congruence}
 use Rattle.congruence.specs.Set.{cong, top, bottom, bottom?, ◌∈◌, ◌⊆◌, Canonical, single, nothing, reduced, Proper}
 use Rattle.congruence.specs.Numbers.{alike?}
-use Rattle.congruence.specs.Meaning.{Shared, Disjoint, Far, JoinOf, lcmOf, MeetOf}
+use Rattle.congruence.specs.Meaning.{Shared, Disjoint, Far, JoinOf, lcm_of, MeetOf}
 use Rattle.congruence.specs.Mended.{class_of, has?, apart?, inside?, joint, overlap, common, beside}
 use Rattle.congruence.proofs.Classes.{alike-test, overlap-none, overlap-is, shared, shared-below, shared-left, shared-right, lcm-pos, lcm-n-0, lcm-0-n}
 use Rattle.congruence.proofs.Sets.{clash, by, bottom-test, bottom-is, none, own, equal-at-0, single-is, canonical-modulus, form-is, bottom-proper}
@@ -78,12 +78,12 @@ module _ (a b : Congruence) where
     where
       there : (a ≡ bottom) ⊎ ((b ≢ bottom) × (Cong n c e × Cong n a.modulus (pos 0))) → a ⊆ b
       there (inl i) x h = absurd (none x (subst (λ t. x ∈ t) i h))
-      there (inr p) x h = makes (is_false (bottom-test b) p.0) p.1.0 (∣-to-natAbs a.modulus (∣-at a.modulus (less-0 a.modulus) p.1.1)) x h
+      there (inr p) x h = makes (is_false (bottom-test b) p.0) p.1.0 (∣-to-nat_abs a.modulus (∣-at a.modulus (less-0 a.modulus) p.1.1)) x h
 
       apart : (a ≢ bottom) × ((b ≡ bottom) ⊎ ((Cong n c e → ⊥) ⊎ (Cong n a.modulus (pos 0) → ⊥))) → a ⊆ b → ⊥
       apart (na, inl i) f = let h = is_false (bottom-test a) na in none c (subst (λ t. c ∈ t) i (f c (own a h)))
       apart (na, inr (inl k)) f = k (needs-class (is_false (bottom-test a) na) f)
-      apart (na, inr (inr k)) f = k (∣-at (a.modulus -ℤ pos 0) (sym (less-0 a.modulus)) (∣-natAbs a.modulus (needs-divisor (is_false (bottom-test a) na) f)))
+      apart (na, inr (inr k)) f = k (∣-at (a.modulus -ℤ pos 0) (sym (less-0 a.modulus)) (∣-nat_abs a.modulus (needs-divisor (is_false (bottom-test a) na) f)))
 
 -- canonical values that stand for the same numbers are equal
 pub unique : (a b : Congruence) → Canonical a → Canonical b → a ⊆ b → b ⊆ a → a ≡ b
@@ -182,7 +182,7 @@ module _ (w : Width) (a b : Congruence) where
       go : (k l : ℕ) → m a b ≡ k → n a b ≡ l → SFits w (pos k) → SFits w (pos l) → SFits w (pos (gcd (gcd k l) (nat_abs (a.constant -ℤ b.constant))))
       go (suc k) l i j g h = divisor-fits w (gcd (gcd (suc k) l) (nat_abs (a.constant -ℤ b.constant))) (suc k) (omega arith) (∣-trans (gcd-left (gcd (suc k) l) (nat_abs (a.constant -ℤ b.constant))) (gcd-left (suc k) l)) g
       go zero (suc l) i j g h = divisor-fits w (gcd (gcd 0 (suc l)) (nat_abs (a.constant -ℤ b.constant))) (suc l) (omega arith) (∣-trans (gcd-left (gcd 0 (suc l)) (nat_abs (a.constant -ℤ b.constant))) (gcd-right 0 (suc l))) h
-      go zero zero i j g h = subst (λ t. SFits w (pos t)) (sym (ap (λ t. gcd t (nat_abs (a.constant -ℤ b.constant))) (gcd-n-0 0) ∙ gcd-0-n (nat_abs (a.constant -ℤ b.constant)))) (f (natAbs-zero a.modulus i) (natAbs-zero b.modulus j))
+      go zero zero i j g h = subst (λ t. SFits w (pos t)) (sym (ap (λ t. gcd t (nat_abs (a.constant -ℤ b.constant))) (gcd-n-0 0) ∙ gcd-0-n (nat_abs (a.constant -ℤ b.constant)))) (f (nat_abs-zero a.modulus i) (nat_abs-zero b.modulus j))
 
   joint-far : Far w a b → joint w a b ≡ top
   joint-far f = neither (single-some a f.singles.0) (single-some b f.singles.1) ∙ class-over w a.constant spread (ap (λ t. fits? w (pos t)) wide ∙ is_false (fits-test w (pos (nat_abs (a.constant -ℤ b.constant)))) (λ g. not_beyond g (inr f.beyond)))
@@ -318,7 +318,7 @@ module _ (w : Width) (a b : Congruence) where
       (λ j. overlap-none w a b (λ d. f (meet-at (m a b) (n a b) (c a b) (e a b) d) (record { some = k; class = meet_left (m a b) (n a b) (c a b) (e a b) d }) (record { some = o; class = meet_right (m a b) (n a b) (c a b) (e a b) d }))))))
 
   -- an lcm that doesn't fit: the left value
-  common-left : (SFits w (lcmOf a b) → ⊥) → Shared a b → common w a b ≡ a
+  common-left : (SFits w (lcm_of a b) → ⊥) → Shared a b → common w a b ≡ a
   unfolding common
   common-left f s = beside-3 _ s.left.some s.right.some ∙
       branch (eq_test a.modulus (pos 0)) (λ t. t ≡ a) (λ i. absurd (f (subst (λ t. SFits w (pos t)) (sym (ap (λ t. lcm (nat_abs t) (n a b)) i ∙ lcm-0-n (n a b))) zero-fits)))

@@ -23,11 +23,11 @@ use Rattle.whole.proofs.Found.{found-is, found-fits, not_found}
 use Rattle.refusal.specs.Answer.{Answer, is, refused}
 use Rattle.congruence.specs.declared.Congruence.{Congruence}
 use Rattle.congruence.specs.Set.{cong, top, bottom, bottom?, ◌∈◌, domain?, Value, alone, spaced, InDomain}
-use Rattle.congruence.specs.Numbers.{gcdThen, absThen, formula}
+use Rattle.congruence.specs.Numbers.{gcd_then, abs_then, formula}
 use Rattle.congruence.specs.Answer.{within}
-use Rattle.congruence.specs.Meaning.{Both, Negation, Sum, Difference, formulaGcd, Ports, not-in-domain, does-not-fit, would-assert, gives, Fits, Just, Some, Asserting, Least, JoinOver, NegOver, NegAsserts, AddOver, MulOver, DifferenceOver, opposite-over, difference-over, PortedProduct, CoversProducts, CoversQuotients, DividedBy, QuotientOver, quotient-over, QuotientAsserts, quotient-asserts, PortedQuotient}
+use Rattle.congruence.specs.Meaning.{Both, Negation, Sum, Difference, formula_gcd, Ports, not-in-domain, does-not-fit, would-assert, gives, Fits, Just, Some, Asserting, Least, JoinOver, NegOver, NegAsserts, AddOver, MulOver, DifferenceOver, opposite-over, difference-over, PortedProduct, CoversProducts, CoversQuotients, DividedBy, QuotientOver, quotient-over, QuotientAsserts, quotient-asserts, PortedQuotient}
 use Rattle.congruence.specs.Ported as ported
-use Rattle.congruence.specs.Ported.{gcdOf, normalize, made, held, asserted, joined, negated, added, addedTo, subtracted, multiplied, divided_by, divided, only?}
+use Rattle.congruence.specs.Ported.{gcd_of, normalize, made, held, asserted, joined, negated, added, added_to, subtracted, multiplied, divided_by, divided, only?}
 use Rattle.congruence.proofs.Sets.{clash, bottom-test, none, all, single-is, value-test, value-positive}
 use Rattle.congruence.proofs.Lattice.{spread, spread-least}
 use Rattle.congruence.proofs.Arithmetic.{gcd-of, moduli-fit, combined, formula-is, formula-of, formula-fits, in-product, sum-class, negation-class, no_number, no-sum, not-both, nor}
@@ -76,9 +76,9 @@ passed-some : (c m : ℤ) → (Asserting c m → ⊥) → cong c m ≢ bottom
 passed-some c m f e = let i : c ≡ pos 1 = ap (λ t. t.constant) e in let j : m ≡ pos 1 = ap (λ t. t.modulus) e in f (omega ints, omega ints)
 
 -- an absolute value that was asked for, also of a number that doesn't fit
-pub abs-then-all : (w : Width) (z : ℤ) → absThen w (exactly w z) ≡ exactly w (pos (nat_abs z))
-unfolding absThen exactly
-abs-then-all w z = branch (fits-test w z) (λ e. absThen w e ≡ exactly w (pos (nat_abs z))) (λ f. refl) (λ b. rw (is_false (fits-test w (pos (nat_abs z))) (λ f. not_beyond (back f) b)))
+pub abs-then-all : (w : Width) (z : ℤ) → abs_then w (exactly w z) ≡ exactly w (pos (nat_abs z))
+unfolding abs_then exactly
+abs-then-all w z = branch (fits-test w z) (λ e. abs_then w e ≡ exactly w (pos (nat_abs z))) (λ f. refl) (λ b. rw (is_false (fits-test w (pos (nat_abs z))) (λ f. not_beyond (back f) b)))
   where
     back : SFits w (pos (nat_abs z)) → SFits w z
     back f = omega (machine, range f, abs z)
@@ -117,23 +117,23 @@ module _ (a b : Congruence) (fa : Fits w64 a) (fb : Fits w64 b) where
       own-abs : (m : ℤ) → pos 0 ≤ℤ m → m ≡ pos (nat_abs m)
       own-abs m h = omega (ints, abs m)
 
-  moduli-found : D → gcdOf a.modulus b.modulus ≡ exacts.Is (pos (gcd (nat_abs a.modulus) (nat_abs b.modulus)))
+  moduli-found : D → gcd_of a.modulus b.modulus ≡ exacts.Is (pos (gcd (nat_abs a.modulus) (nat_abs b.modulus)))
   unfolding exactly
   moduli-found d = rw (is-fit (moduli-fit a b w64 (modulus-abs a d.0) (modulus-abs b d.1))) refl
 
   -- ---- join
 
   abbrev distance : Exact
-  distance = absThen w64 (exactly w64 (a.constant -ℤ b.constant))
+  distance = abs_then w64 (exactly w64 (a.constant -ℤ b.constant))
 
   abbrev spacing : Exact
-  spacing = gcdThen w64 (gcdOf a.modulus b.modulus) distance
+  spacing = gcd_then w64 (gcd_of a.modulus b.modulus) distance
 
   distance_is : distance ≡ exactly w64 (pos (nat_abs (a.constant -ℤ b.constant)))
   distance_is = abs-then-all w64 (a.constant -ℤ b.constant)
 
   spread-found : D → SFits w64 (pos (nat_abs (a.constant -ℤ b.constant))) → spacing ≡ exacts.Is (pos (spread w64 a b))
-  unfolding gcdThen exactly
+  unfolding gcd_then exactly
   spread-found d f = rw (moduli-found d, distance_is, is-fit f, is-fit (gcd-of w64 (gcd (nat_abs a.modulus) (nat_abs b.modulus)) (nat_abs (a.constant -ℤ b.constant)) (moduli-fit a b w64 (modulus-abs a d.0) (modulus-abs b d.1)) f)) refl
 
   spread-is-least : a ≢ bottom → b ≢ bottom → Least a b (normalize a.constant (pos (spread w64 a b)))
@@ -148,7 +148,7 @@ module _ (a b : Congruence) (fa : Fits w64 a) (fb : Fits w64 b) where
       (λ e. does-not-fit d ((na, nb), λ f. other (spread-found d f) e))
       (λ e. absurd (other refl e))
       (λ z k i j.
-      let c = combined w64 (gcdOf a.modulus b.modulus) distance k j in
+      let c = combined w64 (gcd_of a.modulus b.modulus) distance k j in
       let f : SFits w64 (pos (nat_abs (a.constant -ℤ b.constant))) = found (sym distance_is ∙ c.right_is) in
       subst (λ v. Ports D (JoinOver a b) ⊥ (Least a b) (is v)) (ap₂ normalize (one_number i) (one_number (sym (spread-found d f) ∙ j))) (gives (normalize a.constant (pos (spread w64 a b))) d (λ p. p.1 f) (λ x. x) (spread-is-least na nb)))
 
@@ -166,7 +166,7 @@ module _ (a b : Congruence) (fa : Fits w64 a) (fb : Fits w64 b) where
   unfolding added
   added-ports d = branch (either (bottom-test a) (bottom-test b)) (Ports D (AddOver a b) ⊥ (Just (Sum a b)))
       (λ e. gives bottom d (λ o. nor o.0.0 o.0.1 e) (λ x. x) (λ z. (λ h. absurd (none z h), λ s. absurd (no-sum e s))))
-      (λ n. made-cases (Ports D (AddOver a b) ⊥ (Just (Sum a b))) (exactly w64 (a.constant +ℤ b.constant)) (gcdOf a.modulus b.modulus)
+      (λ n. made-cases (Ports D (AddOver a b) ⊥ (Just (Sum a b))) (exactly w64 (a.constant +ℤ b.constant)) (gcd_of a.modulus b.modulus)
       (λ e. absurd (other (moduli-found d) e))
       (λ e. does-not-fit d ((n.0, n.1), unfound e))
       (λ z k i j. subst (λ v. Ports D (AddOver a b) ⊥ (Just (Sum a b)) (is v)) (ap₂ normalize (sym (found-is w64 (a.constant +ℤ b.constant) z i)) (one_number (sym (moduli-found d) ∙ j)))
@@ -188,8 +188,8 @@ module _ (a b : Congruence) (fa : Fits w64 a) (fb : Fits w64 b) where
       (λ e. does-not-fit d ((n.0, n.1), λ f. unfound (sym (formula-of w64 a b (value-positive a d.0.value) (value-positive b d.1.value) f.moduli f.left f.right) ∙ e) f.divisor))
       (λ e. does-not-fit d ((n.0, n.1), λ f. unfound e f.constants))
       (λ z k i j. subst (λ v. Ports D (MulOver a b) ⊥ Products (is v)) (ap₂ normalize (sym (found-is w64 (a.constant *ℤ b.constant) z i)) (sym (formula-is w64 a b k j).0))
-      (gives (normalize (a.constant *ℤ b.constant) (pos (formulaGcd a b))) d (λ o. o.1 (formula-fits w64 a b z k i j)) (λ x. x)
-      (record { none = λ e. absurd (nor n.0 n.1 e); class = λ s x. normalize-class (a.constant *ℤ b.constant) (formulaGcd a b) x }, λ x y h k f. (normalize-class (a.constant *ℤ b.constant) (formulaGcd a b) (x *ℤ y)).1 (in-product a b x y h k))))))
+      (gives (normalize (a.constant *ℤ b.constant) (pos (formula_gcd a b))) d (λ o. o.1 (formula-fits w64 a b z k i j)) (λ x. x)
+      (record { none = λ e. absurd (nor n.0 n.1 e); class = λ s x. normalize-class (a.constant *ℤ b.constant) (formula_gcd a b) x }, λ x y h k f. (normalize-class (a.constant *ℤ b.constant) (formula_gcd a b) (x *ℤ y)).1 (in-product a b x y h k))))))
     where
       empty : {x y : ℤ} → (a ≡ bottom) ⊎ (b ≡ bottom) → x ∈ a → y ∈ b → ⊥
       empty (inl e) h k = no_number e h
@@ -276,13 +276,13 @@ module _ (a b : Congruence) (fa : Fits w64 a) (fb : Fits w64 b) where
         flip e = (e.1, e.0)
 
   pub sub-ported : Subtracts (ported.sub a b)
-  unfolding subtracted addedTo negated
-  sub-ported = ported-two a b fa fb (subtracted a b) (λ d. branch (bottom-test b) (λ r. Subtracts (addedTo a r)) (λ e. less-nothing d e)
-      (λ n. asserted-cases (λ r. Subtracts (addedTo a r)) (exactly w64 (neg_ℤ b.constant)) (exacts.Is b.modulus)
+  unfolding subtracted added_to negated
+  sub-ported = ported-two a b fa fb (subtracted a b) (λ d. branch (bottom-test b) (λ r. Subtracts (added_to a r)) (λ e. less-nothing d e)
+      (λ n. asserted-cases (λ r. Subtracts (added_to a r)) (exactly w64 (neg_ℤ b.constant)) (exacts.Is b.modulus)
       (λ e. does-not-fit d (opposite-over n (unfound e)))
       (λ e. absurd (other refl e))
-      (λ z k i j. subst (λ r. Subtracts (addedTo a r)) (ap₂ held (sym (found-is w64 (neg_ℤ b.constant) z i)) (one_number j))
-      (held-cases (λ r. Subtracts (addedTo a r)) (neg_ℤ b.constant) b.modulus
+      (λ z k i j. subst (λ r. Subtracts (added_to a r)) (ap₂ held (sym (found-is w64 (neg_ℤ b.constant) z i)) (one_number j))
+      (held-cases (λ r. Subtracts (added_to a r)) (neg_ℤ b.constant) b.modulus
       (λ s. would-assert d (record { some = n; fits = found i; asserts = s }))
       (λ f. less-opposite n (found i) f d)))))
 

@@ -155,19 +155,19 @@ module _ (c m e n g s : ℕ) (gis : g ≡ gcd m n) (cm : c < m) (en : e < n) (ag
   t : ℕ
   t = T0 % (n / g)
 
-  mN : m * (n / g) ≡ lcm m n
-  mN = swap m n g (m / g) (n / g) (exact m g g-m) (exact n g g-n) ∙ lcm-is m n g gis
+  m-n : m * (n / g) ≡ lcm m n
+  m-n = swap m n g (m / g) (n / g) (exact m g g-m) (exact n g g-n) ∙ lcm-is m n g gis
 
   below : c + m * t < lcm m n
   unfolding t
   below =
       let h = mul-le-mul_left m (mod-lt T0 N-pos) in
-      omega (arith, mN)
+      omega (arith, m-n)
 
   same-t : Cong n (pos m *ℤ pos t) (pos m *ℤ pos T0)
   unfolding t
   same-t = Cong-sym (pos m *ℤ pos T0) (pos m *ℤ pos t)
-      (∣-trans (∣-trans (lcm-right m n) (subst (λ z. pos z ∣ℤ (pos m *ℤ pos (n / g))) mN (∣-refl (pos (m * (n / g))))))
+      (∣-trans (∣-trans (lcm-right m n) (subst (λ z. pos z ∣ℤ (pos m *ℤ pos (n / g))) m-n (∣-refl (pos (m * (n / g))))))
       (record { by = pos (T0 / (n / g)); is = spread (pos m) (pos T0) (pos (T0 / (n / g))) (pos (n / g)) (pos t) (ap pos (sym (div-add-mod' T0 (n / g)))) }))
     where
       multiply : (m q N t : ℤ) → m *ℤ (q *ℤ N +ℤ t) -ℤ m *ℤ t ≡ q *ℤ (m *ℤ N)

@@ -9,7 +9,7 @@ use lib.Signed.{◌≤ℤ◌, ◌<ℤ◌}
 use lib.Dec.{lit<}
 use mir.Syntax.{Width, w8, w16, w32, w64, w128}
 use mir.Val.{SFits}
-use Rattle.whole.specs.Divides.{Cong, floorRem}
+use Rattle.whole.specs.Divides.{Cong, floor_rem}
 use Rattle.whole.proofs.Linear.{ints, wholes, read, abs}
 use Rattle.whole.proofs.Fits.{machine, range, zero-fits}
 use Rattle.whole.proofs.Decides.{Decides, eq_test, lt_test, fits-test, Beyond, not_beyond, both, either, weaken, is_true, is_false, branch}
@@ -17,7 +17,7 @@ use Rattle.whole.proofs.Divides.{zero-∣}
 use Rattle.whole.proofs.Congruence.{Cong-refl, Cong-sym, Cong-trans}
 use Rattle.whole.proofs.Floor.{floor-low, floor-high, floor-class, floor-zero, floor-only}
 use Rattle.congruence.specs.declared.Congruence.{Congruence}
-use Rattle.congruence.specs.Set.{cong, top, bottom, bottom?, ◌∈◌, domain?, Value, alone, spaced, empty, InDomain, domainAt?, Canonical, single, nothing, reduced, form, Proper}
+use Rattle.congruence.specs.Set.{cong, top, bottom, bottom?, ◌∈◌, domain?, Value, alone, spaced, empty, InDomain, domain_at?, Canonical, single, nothing, reduced, form, Proper}
 
 pub clash : ◌≡◌ {A = Bool} true false → ⊥
 clash e = let z : ◌≡◌ {A = ℕ} 0 1 = cc in omega arith
@@ -71,24 +71,24 @@ all-at-1 x z = record { by = x -ℤ z; is = one (x -ℤ z) }
 
 module _ (z : ℤ) (m : ℕ) where
   abbrev v : Congruence
-  v = cong (floorRem z (pos m)) (pos m)
+  v = cong (floor_rem z (pos m)) (pos m)
 
   not-bottom : bottom? v ≡ false
   not-bottom = is_false (bottom-test v) (λ e. go e (ap (λ t. t.modulus) e) (ap (λ t. t.constant) e))
     where
-      go : v ≡ bottom → pos m ≡ pos 1 → floorRem z (pos m) ≡ pos 1 → ⊥
+      go : v ≡ bottom → pos m ≡ pos 1 → floor_rem z (pos m) ≡ pos 1 → ⊥
       go e h k =
           let n : pos m ≢ pos 0 = omega ints in
           let l = floor-high z (pos m) n in
           omega ints
 
   pub reduced-in : (x : ℤ) → Cong m x z → x ∈ v
-  reduced-in x h = record { some = not-bottom; class = Cong-trans x z (floorRem z (pos m)) h (Cong-sym (floorRem z (pos m)) z (floor-class z (pos m))) }
+  reduced-in x h = record { some = not-bottom; class = Cong-trans x z (floor_rem z (pos m)) h (Cong-sym (floor_rem z (pos m)) z (floor-class z (pos m))) }
 
   pub reduced-out : (x : ℤ) → x ∈ v → Cong m x z
-  reduced-out x h = Cong-trans x (floorRem z (pos m)) z h.class (floor-class z (pos m))
+  reduced-out x h = Cong-trans x (floor_rem z (pos m)) z h.class (floor-class z (pos m))
 
-pub reduced-canonical : (z : ℤ) (m : ℕ) → Canonical (cong (floorRem z (pos m)) (pos m))
+pub reduced-canonical : (z : ℤ) (m : ℕ) → Canonical (cong (floor_rem z (pos m)) (pos m))
 reduced-canonical z zero = single refl
 reduced-canonical z (suc m) = let n : pos (suc m) ≢ pos 0 = omega ints in reduced (floor-low z (pos (suc m)) n) (floor-high z (pos (suc m)) n)
 
@@ -96,9 +96,9 @@ reduced-canonical z (suc m) = let n : pos (suc m) ≢ pos 0 = omega ints in redu
 pub below-fits : (w : Width) (z : ℤ) (m : ℕ) → SFits w (pos m) → pos 0 ≤ℤ z → z <ℤ pos m → SFits w z
 below-fits w z m f h k = omega (machine, range f)
 
-pub floor-fits : (w : Width) (z : ℤ) (m : ℕ) → (m ≡ 0 → SFits w z) → SFits w (pos m) → SFits w (floorRem z (pos m))
+pub floor-fits : (w : Width) (z : ℤ) (m : ℕ) → (m ≡ 0 → SFits w z) → SFits w (pos m) → SFits w (floor_rem z (pos m))
 floor-fits w z zero f g = subst (λ t. SFits w t) (sym (floor-zero z)) (f refl)
-floor-fits w z (suc m) f g = let n : pos (suc m) ≢ pos 0 = omega ints in below-fits w (floorRem z (pos (suc m))) (suc m) g (floor-low z (pos (suc m)) n) (floor-high z (pos (suc m)) n)
+floor-fits w z (suc m) f g = let n : pos (suc m) ≢ pos 0 = omega ints in below-fits w (floor_rem z (pos (suc m))) (suc m) g (floor-low z (pos (suc m)) n) (floor-high z (pos (suc m)) n)
 
 -- ---- top, and a single number
 
@@ -121,7 +121,7 @@ bottom-proper w = record { canonical = nothing refl; constant-fits = one-fits w;
 pub single-proper : (w : Width) (z : ℤ) → SFits w z → Proper w (cong z (pos 0))
 single-proper w z f = record { canonical = single refl; constant-fits = f; modulus-fits = zero-fits }
 
-pub reduced-proper : (w : Width) (z : ℤ) (m : ℕ) → (m ≡ 0 → SFits w z) → SFits w (pos m) → Proper w (cong (floorRem z (pos m)) (pos m))
+pub reduced-proper : (w : Width) (z : ℤ) (m : ℕ) → (m ≡ 0 → SFits w z) → SFits w (pos m) → Proper w (cong (floor_rem z (pos m)) (pos m))
 reduced-proper w z m f g = record { canonical = reduced-canonical z m; constant-fits = floor-fits w z m f g; modulus-fits = g }
 
 module _ (z : ℤ) where
@@ -145,10 +145,10 @@ module _ (a : Congruence) where
   m = a.modulus
 
   -- the form of what isn't bottom isn't bottom
-  form-some : bottom? (cong (floorRem c m) m) ≡ false
-  form-some = is_false (bottom-test (cong (floorRem c m) m)) (λ e. go (ap (λ t. t.modulus) e) (ap (λ t. t.constant) e))
+  form-some : bottom? (cong (floor_rem c m) m) ≡ false
+  form-some = is_false (bottom-test (cong (floor_rem c m) m)) (λ e. go (ap (λ t. t.modulus) e) (ap (λ t. t.constant) e))
     where
-      go : m ≡ pos 1 → floorRem c m ≡ pos 1 → ⊥
+      go : m ≡ pos 1 → floor_rem c m ≡ pos 1 → ⊥
       go h k =
           let n : m ≢ pos 0 = omega ints in
           let l = floor-high c m n in
@@ -156,12 +156,12 @@ module _ (a : Congruence) where
 
   pub form_in : (x : ℤ) → x ∈ a → x ∈ form a
   unfolding form
-  form_in x h = rw h.some (record { some = form-some; class = Cong-trans x c (floorRem c m) h.class (Cong-sym (floorRem c m) c (floor-class c m)) })
+  form_in x h = rw h.some (record { some = form-some; class = Cong-trans x c (floor_rem c m) h.class (Cong-sym (floor_rem c m) c (floor-class c m)) })
 
   pub form-out : (x : ℤ) → x ∈ form a → x ∈ a
   unfolding form
   form-out x = branch (bottom-test a) (λ t. x ∈ t → x ∈ a) (λ e h. absurd (none x h))
-      (λ n h. record { some = is_false (bottom-test a) n; class = Cong-trans x (floorRem c m) c h.class (floor-class c m) })
+      (λ n h. record { some = is_false (bottom-test a) n; class = Cong-trans x (floor_rem c m) c h.class (floor-class c m) })
 
   pub value-test : Decides (Value a) (Value a → ⊥) (domain? a)
   unfolding domain?
@@ -187,7 +187,7 @@ module _ (a : Congruence) where
   unfolding form
   form-canonical h = branch (bottom-test a) Canonical (λ e. nothing refl) (λ n. go m (value-positive h))
     where
-      go : (k : ℤ) → pos 0 ≤ℤ k → Canonical (cong (floorRem c k) k)
+      go : (k : ℤ) → pos 0 ≤ℤ k → Canonical (cong (floor_rem c k) k)
       go (pos k) l = reduced-canonical c k
       go (negsuc k) l = absurd l.le
 
@@ -203,8 +203,8 @@ module _ (a : Congruence) where
   unfolding form
   form-is h = branch (bottom-test a) (λ t. t ≡ a) (λ e. sym e) (λ n. go h n)
     where
-      go : Canonical a → a ≢ bottom → cong (floorRem c m) m ≡ a
-      go (single e) n = ap (λ t. cong t m) (ap (floorRem c) e ∙ floor-zero c)
+      go : Canonical a → a ≢ bottom → cong (floor_rem c m) m ≡ a
+      go (single e) n = ap (λ t. cong t m) (ap (floor_rem c) e ∙ floor-zero c)
       go (nothing e) n = absurd (n e)
       go (reduced l k) n = ap (λ t. cong t m) (sym (floor-only c m c (omega ints) l (omega (ints, abs m)) (Cong-refl (nat_abs m) c)))
 
@@ -222,8 +222,8 @@ module _ (a : Congruence) where
 -- ---- the domain of a width
 
 module _ (w : Width) (a : Congruence) where
-  pub domain-at-test : Decides (InDomain w a) (InDomain w a → ⊥) (domainAt? w a)
-  unfolding domainAt?
+  pub domain-at-test : Decides (InDomain w a) (InDomain w a → ⊥) (domain_at? w a)
+  unfolding domain_at?
   domain-at-test = weaken there apart (both (value-test a) (both (fits-test w a.constant) (fits-test w a.modulus)))
     where
       there : Value a × (SFits w a.constant × SFits w a.modulus) → InDomain w a
@@ -239,7 +239,7 @@ module _ (w : Width) (a : Congruence) where
   unfolding form
   form-proper d = branch (bottom-test a) (Proper w) (λ e. bottom-proper w) (λ n. go a.modulus (value-positive a d.value) d.modulus-fits)
     where
-      go : (k : ℤ) → pos 0 ≤ℤ k → SFits w k → Proper w (cong (floorRem a.constant k) k)
+      go : (k : ℤ) → pos 0 ≤ℤ k → SFits w k → Proper w (cong (floor_rem a.constant k) k)
       go (pos k) l g = reduced-proper w a.constant k (λ e. d.constant-fits) g
       go (negsuc k) l g = absurd l.le
 

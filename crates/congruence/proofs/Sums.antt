@@ -6,7 +6,7 @@ use lib.IntN.{ℤ, pos, neg_ℤ, nat_abs, ◌+ℤ◌, ◌-ℤ◌}
 use lib.Signed.{◌≤ℤ◌, ◌<ℤ◌}
 use mir.Syntax.{Width}
 use mir.Val.{SFits}
-use Rattle.whole.specs.Divides.{Cong, floorRem}
+use Rattle.whole.specs.Divides.{Cong, floor_rem}
 use Rattle.whole.proofs.Linear.{ints, wholes, read, abs, sub}
 use Rattle.whole.proofs.Shapes.{lin}
 use Rattle.whole.proofs.Fits.{machine, range}
@@ -16,10 +16,10 @@ use Rattle.whole.proofs.Floor.{floor-low, floor-high, floor-class, floor-only}
 
 module _ (x y m : ℤ) (h : pos 0 <ℤ m) where
   abbrev a : ℤ
-  a = floorRem x m
+  a = floor_rem x m
 
   abbrev b : ℤ
-  b = floorRem y m
+  b = floor_rem y m
 
   nz : m ≢ pos 0
   nz = omega ints
@@ -31,13 +31,13 @@ module _ (x y m : ℤ) (h : pos 0 <ℤ m) where
   low-a = floor-low x m nz
 
   pub high-a : a <ℤ m
-  high-a = subst (λ t. floorRem x m <ℤ t) own (floor-high x m nz)
+  high-a = subst (λ t. floor_rem x m <ℤ t) own (floor-high x m nz)
 
   pub low-b : pos 0 ≤ℤ b
   low-b = floor-low y m nz
 
   pub high-b : b <ℤ m
-  high-b = subst (λ t. floorRem y m <ℤ t) own (floor-high y m nz)
+  high-b = subst (λ t. floor_rem y m <ℤ t) own (floor-high y m nz)
 
   together : Cong (nat_abs m) (a +ℤ b) (x +ℤ y)
   together = Cong-+ a x b y (floor-class x m) (floor-class y m)
@@ -83,20 +83,20 @@ module _ (x y m : ℤ) (h : pos 0 <ℤ m) where
     pub turned-fits : a <ℤ b → SFits w (a +ℤ (m -ℤ b))
     turned-fits k = omega (machine, range f, low-a, high-b, low-b, sub m b)
 
-  pub sum_is : a <ℤ (m -ℤ b) → a +ℤ b ≡ floorRem (x +ℤ y) m
+  pub sum_is : a <ℤ (m -ℤ b) → a +ℤ b ≡ floor_rem (x +ℤ y) m
   sum_is k = floor-only (x +ℤ y) m (a +ℤ b) nz (omega (lin, low-a, low-b)) (subst (λ t. (a +ℤ b) <ℤ t) (sym own) (omega lin)) together
 
-  pub wrapped-is : (m -ℤ b) ≤ℤ a → a -ℤ (m -ℤ b) ≡ floorRem (x +ℤ y) m
+  pub wrapped-is : (m -ℤ b) ≤ℤ a → a -ℤ (m -ℤ b) ≡ floor_rem (x +ℤ y) m
   wrapped-is k = floor-only (x +ℤ y) m (a -ℤ (m -ℤ b)) nz (omega (lin, sub m b)) (subst (λ t. (a -ℤ (m -ℤ b)) <ℤ t) (sym own) (omega (lin, sub m b, high-a, high-b)))
       (subst (λ t. Cong (nat_abs m) t (x +ℤ y)) (group a b m) (Cong-trans (a +ℤ b -ℤ m) (a +ℤ b) (x +ℤ y) (less (a +ℤ b)) together))
     where
       group : (a b m : ℤ) → a +ℤ b -ℤ m ≡ a -ℤ (m -ℤ b)
       group a b m = rw (read a, read b, read m) (simp wholes (omega arith))
 
-  pub difference-is : b ≤ℤ a → a -ℤ b ≡ floorRem (x -ℤ y) m
+  pub difference-is : b ≤ℤ a → a -ℤ b ≡ floor_rem (x -ℤ y) m
   difference-is k = floor-only (x -ℤ y) m (a -ℤ b) nz (omega lin) (subst (λ t. (a -ℤ b) <ℤ t) (sym own) (omega (lin, high-a, low-b))) apart
 
-  pub turned-is : a <ℤ b → a +ℤ (m -ℤ b) ≡ floorRem (x -ℤ y) m
+  pub turned-is : a <ℤ b → a +ℤ (m -ℤ b) ≡ floor_rem (x -ℤ y) m
   turned-is k = floor-only (x -ℤ y) m (a +ℤ (m -ℤ b)) nz (omega (lin, low-a, high-b, sub m b)) (subst (λ t. (a +ℤ (m -ℤ b)) <ℤ t) (sym own) (omega (lin, sub m b)))
       (subst (λ t. Cong (nat_abs m) t (x -ℤ y)) (group a b m) (Cong-trans (a -ℤ b +ℤ m) (a -ℤ b) (x -ℤ y) (more (a -ℤ b)) apart))
     where

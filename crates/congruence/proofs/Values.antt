@@ -13,7 +13,7 @@ use Rattle.whole.proofs.Flags.{bools, eq_yes, eq-no-64, eq_is}
 use Rattle.refusal.specs.Answer.{Answer, is}
 use Rattle.congruence.specs.declared.Congruence.{Congruence}
 use Rattle.congruence.specs.Answer.{within}
-use Rattle.congruence.specs.Set.{cong, bottom?, domain?, domainAt?, singles?, form}
+use Rattle.congruence.specs.Set.{cong, bottom?, domain?, domain_at?, singles?, form}
 use Rattle.congruence.specs.Numbers.{divides?}
 use Rattle.congruence.specs.Ported as ported
 use Rattle.congruence.specs.Mended as mended
@@ -59,9 +59,9 @@ pub framed : {A : Type 0} (rule : Congruence → Congruence → A) {a b x y : Co
 framed rule h p q i j = h ∙ ap₂ (λ s v. within s (is v)) p (q ∙ ap₂ rule i j)
 
 -- a comparison the other way round
-pub turned : (w : Width) (test : ℤ → ℤ → Bool) (a b : Congruence) → mended.onForms w (mended.comparison test) a b ≡ mended.onForms w (mended.comparison (λ x y. test y x)) b a
+pub turned : (w : Width) (test : ℤ → ℤ → Bool) (a b : Congruence) → mended.on_forms w (mended.comparison test) a b ≡ mended.on_forms w (mended.comparison (λ x y. test y x)) b a
 unfolding mended.comparison singles?
-turned w test a b = simp (and_comm (domainAt? w a) (domainAt? w b), and_comm ((form a).modulus ≟ pos 0) ((form b).modulus ≟ pos 0))
+turned w test a b = simp (and_comm (domain_at? w a) (domain_at? w b), and_comm ((form a).modulus ≟ pos 0) ((form b).modulus ≟ pos 0))
   where
     and_comm : (s t : Bool) → (s && t) ≡ (t && s)
     and_comm true true = refl
@@ -69,7 +69,7 @@ turned w test a b = simp (and_comm (domainAt? w a) (domainAt? w b), and_comm ((f
     and_comm false true = refl
     and_comm false false = refl
 
-pub domain-at-told : (w : Width) (a : Congruence) (r t : Bool) → r ≡ domainAt? w a → r ≡ t → domainAt? w a ≡ t
+pub domain-at-told : (w : Width) (a : Congruence) (r t : Bool) → r ≡ domain_at? w a → r ≡ t → domain_at? w a ≡ t
 domain-at-told w a r t p q = sym p ∙ q
 
 pub domain-told : (a : Congruence) (r t : Bool) → r ≡ domain? a → r ≡ t → domain? a ≡ t

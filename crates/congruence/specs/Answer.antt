@@ -19,19 +19,19 @@ abbrev pub told : CongruenceAnswer → Answer Congruence
 told (value.Is v) = is v
 told (value.Refused r) = refused (number_of r)
 
-abbrev pub truthTold : TruthAnswer → Answer Bool
-truthTold (truth.Is t) = is t
-truthTold (truth.Refused r) = refused (number_of r)
+abbrev pub truth_told : TruthAnswer → Answer Bool
+truth_told (truth.Is t) = is t
+truth_told (truth.Refused r) = refused (number_of r)
 
-abbrev pub orderTold : OrderAnswer → Answer Order
-orderTold (order.Is o) = is o
-orderTold (order.Refused r) = refused (number_of r)
+abbrev pub order_told : OrderAnswer → Answer Order
+order_told (order.Is o) = is o
+order_told (order.Refused r) = refused (number_of r)
 
 -- that there is no single number is no refusal
-abbrev pub singleTold : SingleAnswer → Answer (Option ℤ)
-singleTold (single.Is z) = is (some z)
-singleTold single.None = is none
-singleTold (single.Refused r) = refused (number_of r)
+abbrev pub single_told : SingleAnswer → Answer (Option ℤ)
+single_told (single.Is z) = is (some z)
+single_told single.None = is none
+single_told (single.Refused r) = refused (number_of r)
 
 -- what is answered where a test says that the arguments are in the domain
 abbrev pub within : {A : Type 0} → Bool → Answer A → Answer A

@@ -6,7 +6,7 @@ use Rattle.std.specs.Int.{Width, w64}
 use Rattle.std.proofs.Common.{SFits}
 use Rattle.whole.specs.Test.{truth}
 use Rattle.whole.specs.Range.{least, greatest}
-use Rattle.whole.specs.Divides.{◌∣ℤ◌, gcd, lcm, Cong, floorRem}
+use Rattle.whole.specs.Divides.{◌∣ℤ◌, gcd, lcm, Cong, floor_rem}
 use Rattle.whole.specs.declared.Order.{Order}
 use Rattle.whole.specs.declared.Order.TheVariants.{Less, Equal, Greater, None}
 use Rattle.refusal.specs.Answer.{Answer, is, refused}
@@ -61,14 +61,14 @@ pub record JoinOf (w : Width) (a b v : Congruence) : Type 0 where
   pub least : (Far w a b → ⊥) → (d : Congruence) → a ⊆ d → b ⊆ d → v ⊆ d
   pub far : Far w a b → v ≡ top
 
-abbrev pub lcmOf : Congruence → Congruence → ℤ
-lcmOf a b = pos (lcm (nat_abs a.modulus) (nat_abs b.modulus))
+abbrev pub lcm_of : Congruence → Congruence → ℤ
+lcm_of a b = pos (lcm (nat_abs a.modulus) (nat_abs b.modulus))
 
 -- the common numbers; if the lcm doesn't fit and a common number exists, the left value, made canonical
 pub record MeetOf (w : Width) (a b v : Congruence) : Type 0 where
-  pub common : SFits w (lcmOf a b) → (x : ℤ) → x ∈ v ↔ ((x ∈ a) × (x ∈ b))
+  pub common : SFits w (lcm_of a b) → (x : ℤ) → x ∈ v ↔ ((x ∈ a) × (x ∈ b))
   pub none : Disjoint a b → v ≡ bottom
-  pub left : (SFits w (lcmOf a b) → ⊥) → Shared a b → v ≡ form a
+  pub left : (SFits w (lcm_of a b) → ⊥) → Shared a b → v ≡ form a
 
 -- ---- arithmetic
 
@@ -98,8 +98,8 @@ pub data Exactly (w : Width) (R : ℤ → Type 0) (v : Congruence) : Type 0 wher
   over : (z : ℤ) → (SFits w z → ⊥) → ((y : ℤ) → R y ↔ (y ≡ z)) → v ≡ bottom → Exactly w R v
 
 -- 000's formula for the modulus of a product: the gcd of the moduli's product and of each modulus with the other's constant
-abbrev pub formulaGcd : Congruence → Congruence → ℕ
-formulaGcd a b = gcd (gcd (nat_abs (a.modulus *ℤ b.modulus)) (nat_abs (a.modulus *ℤ b.constant))) (nat_abs (b.modulus *ℤ a.constant))
+abbrev pub formula_gcd : Congruence → Congruence → ℕ
+formula_gcd a b = gcd (gcd (nat_abs (a.modulus *ℤ b.modulus)) (nat_abs (a.modulus *ℤ b.constant))) (nat_abs (b.modulus *ℤ a.constant))
 
 -- its four products and the gcd fit
 pub record FormulaFits (w : Width) (a b : Congruence) : Type 0 where
@@ -107,16 +107,16 @@ pub record FormulaFits (w : Width) (a b : Congruence) : Type 0 where
   pub left : SFits w (a.modulus *ℤ b.constant)
   pub right : SFits w (b.modulus *ℤ a.constant)
   pub constants : SFits w (a.constant *ℤ b.constant)
-  pub divisor : SFits w (pos (formulaGcd a b))
+  pub divisor : SFits w (pos (formula_gcd a b))
 
 -- the class of z modulo m, canonical
 abbrev pub class_at : ℤ → ℕ → Congruence
-class_at z m = cong (floorRem z (pos m)) (pos m)
+class_at z m = cong (floor_rem z (pos m)) (pos m)
 
 -- of canonical values, by 000's formula; if one of its four products or the gcd doesn't fit, top (two single numbers: bottom)
 pub data ProductOf (w : Width) (a b : Congruence) : Congruence → Type 0 where
   product-of-nothing : (a ≡ bottom) ⊎ (b ≡ bottom) → ProductOf w a b bottom
-  by-formula : a ≢ bottom → b ≢ bottom → FormulaFits w a b → ProductOf w a b (class_at (a.constant *ℤ b.constant) (formulaGcd a b))
+  by-formula : a ≢ bottom → b ≢ bottom → FormulaFits w a b → ProductOf w a b (class_at (a.constant *ℤ b.constant) (formula_gcd a b))
   over-single : Singles a b → (FormulaFits w a b → ⊥) → ProductOf w a b bottom
   over-class : a ≢ bottom → b ≢ bottom → (Singles a b → ⊥) → (FormulaFits w a b → ⊥) → ProductOf w a b top
 
@@ -139,11 +139,11 @@ CoversQuotients w a b v = (x y : ℤ) → x ∈ a → y ∈ b → y ≢ pos 0 �
 
 -- ---- comparisons: true is (1, 0), false (0, 0)
 
-abbrev pub false-value : Congruence
-false-value = cong (pos 0) (pos 0)
+abbrev pub false_value : Congruence
+false_value = cong (pos 0) (pos 0)
 
-abbrev pub true-value : Congruence
-true-value = cong (pos 1) (pos 0)
+abbrev pub true_value : Congruence
+true_value = cong (pos 1) (pos 0)
 
 -- one and the same single number
 abbrev pub OneNumber : Congruence → Congruence → Type 0
@@ -151,8 +151,8 @@ OneNumber a b = Singles a b × (a.constant ≡ b.constant)
 
 -- false exactly if disjoint, true exactly for equal single numbers, else top
 pub record EqualityOf (a b v : Congruence) : Type 0 where
-  pub never : v ≡ false-value ↔ Disjoint a b
-  pub always : v ≡ true-value ↔ OneNumber a b
+  pub never : v ≡ false_value ↔ Disjoint a b
+  pub always : v ≡ true_value ↔ OneNumber a b
   pub unknown : Shared a b → (OneNumber a b → ⊥) → v ≡ top
 
 -- 002's: two single numbers are compared, all else gives top
@@ -220,7 +220,7 @@ MulOver a b = Some a b × (FormulaFits w64 a b → ⊥)
 -- the class that 000's formula gives; bottom in, bottom out
 pub record PortedProduct (a b v : Congruence) : Type 0 where
   pub none : (a ≡ bottom) ⊎ (b ≡ bottom) → v ≡ bottom
-  pub class : Some a b → (x : ℤ) → x ∈ v ↔ Cong (formulaGcd a b) x (a.constant *ℤ b.constant)
+  pub class : Some a b → (x : ℤ) → x ∈ v ↔ Cong (formula_gcd a b) x (a.constant *ℤ b.constant)
 
 -- d is the divisor, another number than 0, and divides constant and modulus
 pub record DividedBy (a b : Congruence) (d : ℤ) : Type 0 where

@@ -5,7 +5,7 @@ use Rattle.std.specs.Int.{Width}
 use Rattle.whole.specs.Choice.{pick}
 use Rattle.whole.specs.Test.{◌≤?◌, ◌<?◌, ◌≟◌, truth}
 use Rattle.whole.specs.Range.{fits?}
-use Rattle.whole.specs.Divides.{gcd, lcm, floorRem}
+use Rattle.whole.specs.Divides.{gcd, lcm, floor_rem}
 use Rattle.whole.specs.Exact.{exactly}
 use Rattle.whole.specs.declared.Exact.{Exact}
 use Rattle.whole.specs.declared.Exact.TheVariants as exact
@@ -13,8 +13,8 @@ use Rattle.whole.specs.declared.Order.{Order}
 use Rattle.whole.specs.declared.Order.TheVariants.{Less, Equal, Greater, None}
 use Rattle.refusal.specs.Answer.{Answer, is}
 use Rattle.congruence.specs.declared.Congruence.{Congruence}
-use Rattle.congruence.specs.Set.{cong, top, bottom, bottom?, domainAt?, singles?, form}
-use Rattle.congruence.specs.Numbers.{absThen, alike?, formula, divides?}
+use Rattle.congruence.specs.Set.{cong, top, bottom, bottom?, domain_at?, singles?, form}
+use Rattle.congruence.specs.Numbers.{abs_then, alike?, formula, divides?}
 use Rattle.congruence.specs.Answer.{within}
 
 -- ---- what the rules are made of
@@ -23,20 +23,20 @@ use Rattle.congruence.specs.Answer.{within}
 unfoldable pub result_of : Exact → Exact → Congruence → Congruence
 result_of exact.DoesNotFit g over = over
 result_of (exact.Is z) exact.DoesNotFit over = over
-result_of (exact.Is z) (exact.Is g) over = cong (floorRem z g) g
+result_of (exact.Is z) (exact.Is g) over = cong (floor_rem z g) g
 
 -- the class of z modulo m; top if m is no number of the width
 unfoldable pub class_of : Width → ℤ → ℕ → Congruence
 class_of w z m = result_of (exact.Is z) (exactly w (pos m)) top
 
 -- a single number; bottom if it doesn't fit
-unfoldable pub onlyOf : Exact → Congruence
-onlyOf (exact.Is z) = cong z (pos 0)
-onlyOf exact.DoesNotFit = bottom
+unfoldable pub only_of : Exact → Congruence
+only_of (exact.Is z) = cong z (pos 0)
+only_of exact.DoesNotFit = bottom
 
 -- the numbers that differ from z by a multiple of m, no others
-unfoldable pub exactOf : Width → ℤ → ℕ → Congruence
-exactOf w z m = pick (eqb m 0) (onlyOf (exactly w z)) (class_of w z m)
+unfoldable pub exact_of : Width → ℤ → ℕ → Congruence
+exact_of w z m = pick (eqb m 0) (only_of (exactly w z)) (class_of w z m)
 
 -- bottom in, bottom out
 unfoldable pub beside : Congruence → Congruence → Congruence → Congruence
@@ -88,13 +88,13 @@ inclusion a b = pick (inside? a b) (pick (inside? b a) Equal Less) (pick (inside
 -- ---- arithmetic
 
 unfoldable pub negative : Width → Congruence → Congruence
-negative w a = pick (bottom? a) bottom (exactOf w (neg_ℤ a.constant) (nat_abs a.modulus))
+negative w a = pick (bottom? a) bottom (exact_of w (neg_ℤ a.constant) (nat_abs a.modulus))
 
 unfoldable pub sum : Width → Congruence → Congruence → Congruence
-sum w a b = beside a b (exactOf w (a.constant +ℤ b.constant) (gcd (nat_abs a.modulus) (nat_abs b.modulus)))
+sum w a b = beside a b (exact_of w (a.constant +ℤ b.constant) (gcd (nat_abs a.modulus) (nat_abs b.modulus)))
 
 unfoldable pub difference : Width → Congruence → Congruence → Congruence
-difference w a b = beside a b (exactOf w (a.constant -ℤ b.constant) (gcd (nat_abs a.modulus) (nat_abs b.modulus)))
+difference w a b = beside a b (exact_of w (a.constant -ℤ b.constant) (gcd (nat_abs a.modulus) (nat_abs b.modulus)))
 
 -- where a number of the formula doesn't fit: bottom for two single numbers, else top
 unfoldable pub over : Congruence → Congruence → Congruence
@@ -104,16 +104,16 @@ unfoldable pub product : Width → Congruence → Congruence → Congruence
 product w a b = beside a b (result_of (exactly w (a.constant *ℤ b.constant)) (formula w a b) (over a b))
 
 -- 000's rule for a single divisor d, its sign dropped from the modulus; bottom where the quotient doesn't fit
-unfoldable pub byNumber : Width → Congruence → ℤ → Congruence
-byNumber w a d =
+unfoldable pub by_number : Width → Congruence → ℤ → Congruence
+by_number w a d =
     pick (divides? d a)
-    (result_of (exactly w (quot_z a.constant d)) (absThen w (exactly w (quot_z a.modulus d))) bottom)
+    (result_of (exactly w (quot_z a.constant d)) (abs_then w (exactly w (quot_z a.modulus d))) bottom)
     top
 
 unfoldable pub quotient : Width → Congruence → Congruence → Congruence
 quotient w a b =
     beside a b
-    (pick (b.modulus ≟ pos 0) (pick (b.constant ≟ pos 0) bottom (byNumber w a b.constant)) top)
+    (pick (b.modulus ≟ pos 0) (pick (b.constant ≟ pos 0) bottom (by_number w a b.constant)) top)
 
 -- ---- comparisons: true is 1, false 0
 
@@ -126,54 +126,54 @@ comparison test a b = pick (singles? a b) (cong (truth (test a.constant b.consta
 
 -- ---- the operations: outside the domain of the width each is refused by 1, and values of it are first made canonical
 
-abbrev pub onForm : Width → (Congruence → Congruence) → Congruence → Answer Congruence
-onForm w f a = within (domainAt? w a) (is (f (form a)))
+abbrev pub on_form : Width → (Congruence → Congruence) → Congruence → Answer Congruence
+on_form w f a = within (domain_at? w a) (is (f (form a)))
 
-abbrev pub onForms : {A : Type 0} → Width → (Congruence → Congruence → A) → Congruence → Congruence → Answer A
-onForms w f a b = within (domainAt? w a && domainAt? w b) (is (f (form a) (form b)))
+abbrev pub on_forms : {A : Type 0} → Width → (Congruence → Congruence → A) → Congruence → Congruence → Answer A
+on_forms w f a b = within (domain_at? w a && domain_at? w b) (is (f (form a) (form b)))
 
 abbrev pub neg : Width → Congruence → Answer Congruence
-neg w = onForm w (negative w)
+neg w = on_form w (negative w)
 
 abbrev pub add : Width → Congruence → Congruence → Answer Congruence
-add w = onForms w (sum w)
+add w = on_forms w (sum w)
 
 abbrev pub sub : Width → Congruence → Congruence → Answer Congruence
-sub w = onForms w (difference w)
+sub w = on_forms w (difference w)
 
 abbrev pub mul : Width → Congruence → Congruence → Answer Congruence
-mul w = onForms w (product w)
+mul w = on_forms w (product w)
 
 abbrev pub div : Width → Congruence → Congruence → Answer Congruence
-div w = onForms w (quotient w)
+div w = on_forms w (quotient w)
 
 abbrev pub join : Width → Congruence → Congruence → Answer Congruence
-join w = onForms w (joint w)
+join w = on_forms w (joint w)
 
 abbrev pub meet : Width → Congruence → Congruence → Answer Congruence
-meet w = onForms w (common w)
+meet w = on_forms w (common w)
 
 -- of the new value and the previous one
 abbrev pub widen : Width → Congruence → Congruence → Answer Congruence
 widen = join
 
 abbrev pub disjoint : Width → Congruence → Congruence → Answer Bool
-disjoint w = onForms w apart?
+disjoint w = on_forms w apart?
 
 abbrev pub partial_cmp : Width → Congruence → Congruence → Answer Order
-partial_cmp w = onForms w inclusion
+partial_cmp w = on_forms w inclusion
 
 abbrev pub equals : Width → Congruence → Congruence → Answer Congruence
-equals w = onForms w equality
+equals w = on_forms w equality
 
 abbrev pub less : Width → Congruence → Congruence → Answer Congruence
-less w = onForms w (comparison ◌<?◌)
+less w = on_forms w (comparison ◌<?◌)
 
 abbrev pub greater : Width → Congruence → Congruence → Answer Congruence
-greater w = onForms w (comparison (λ x y. y <? x))
+greater w = on_forms w (comparison (λ x y. y <? x))
 
-abbrev pub lessOrEqual : Width → Congruence → Congruence → Answer Congruence
-lessOrEqual w = onForms w (comparison ◌≤?◌)
+abbrev pub less_or_equal : Width → Congruence → Congruence → Answer Congruence
+less_or_equal w = on_forms w (comparison ◌≤?◌)
 
-abbrev pub greaterOrEqual : Width → Congruence → Congruence → Answer Congruence
-greaterOrEqual w = onForms w (comparison (λ x y. y ≤? x))
+abbrev pub greater_or_equal : Width → Congruence → Congruence → Answer Congruence
+greater_or_equal w = on_forms w (comparison (λ x y. y ≤? x))

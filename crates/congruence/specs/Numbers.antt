@@ -10,15 +10,15 @@ use Rattle.whole.specs.declared.Exact.{Exact}
 use Rattle.whole.specs.declared.Exact.TheVariants.{Is, DoesNotFit}
 
 -- the gcd of the absolute values
-unfoldable pub gcdThen : Width → Exact → Exact → Exact
-gcdThen w DoesNotFit y = DoesNotFit
-gcdThen w (Is x) DoesNotFit = DoesNotFit
-gcdThen w (Is x) (Is y) = exactly w (pos (gcd (nat_abs x) (nat_abs y)))
+unfoldable pub gcd_then : Width → Exact → Exact → Exact
+gcd_then w DoesNotFit y = DoesNotFit
+gcd_then w (Is x) DoesNotFit = DoesNotFit
+gcd_then w (Is x) (Is y) = exactly w (pos (gcd (nat_abs x) (nat_abs y)))
 
 -- the absolute value
-unfoldable pub absThen : Width → Exact → Exact
-absThen w DoesNotFit = DoesNotFit
-absThen w (Is x) = exactly w (pos (nat_abs x))
+unfoldable pub abs_then : Width → Exact → Exact
+abs_then w DoesNotFit = DoesNotFit
+abs_then w (Is x) = exactly w (pos (nat_abs x))
 
 -- x and y differ by a multiple of m; for m = 0 they are equal
 unfoldable pub alike? : ℕ → ℤ → ℤ → Bool
@@ -27,7 +27,7 @@ alike? m x y = eqb (nat_abs (x -ℤ y) % m) 0
 -- the modulus of a product: the gcd of the product of the moduli and of each modulus with the other's constant
 unfoldable pub formula : Width → Congruence → Congruence → Exact
 formula w a b =
-    gcdThen w (gcdThen w (exactly w (a.modulus *ℤ b.modulus)) (exactly w (a.modulus *ℤ b.constant)))
+    gcd_then w (gcd_then w (exactly w (a.modulus *ℤ b.modulus)) (exactly w (a.modulus *ℤ b.constant)))
     (exactly w (b.modulus *ℤ a.constant))
 
 -- d divides both numbers of a

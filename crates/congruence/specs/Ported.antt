@@ -15,16 +15,16 @@ use Rattle.whole.specs.declared.Order.TheVariants.{Less, Equal, Greater, None}
 use Rattle.refusal.specs.Answer.{Answer, is, refused}
 use Rattle.congruence.specs.declared.Congruence.{Congruence}
 use Rattle.congruence.specs.Set.{cong, top, bottom, bottom?, domain?, singles?}
-use Rattle.congruence.specs.Numbers.{gcdThen, absThen, formula, divides?}
+use Rattle.congruence.specs.Numbers.{gcd_then, abs_then, formula, divides?}
 use Rattle.congruence.specs.Answer.{within}
 
 -- ---- numbers on the way: each is one that fits, or the call is refused by 2
 
-abbrev pub gcdOf : ℤ → ℤ → Exact
-gcdOf x y = exactly w64 (pos (divides.gcd (nat_abs x) (nat_abs y)))
+abbrev pub gcd_of : ℤ → ℤ → Exact
+gcd_of x y = exactly w64 (pos (divides.gcd (nat_abs x) (nat_abs y)))
 
-abbrev pub lcmOf : ℤ → ℤ → Exact
-lcmOf x y = exactly w64 (pos (divides.lcm (nat_abs x) (nat_abs y)))
+abbrev pub lcm_of : ℤ → ℤ → Exact
+lcm_of x y = exactly w64 (pos (divides.lcm (nat_abs x) (nat_abs y)))
 
 -- the Rust's `normalize`
 unfoldable pub normalize : ℤ → ℤ → Congruence
@@ -71,20 +71,20 @@ separated a b =
     pick (a.modulus ≟ pos 0)
     (pick (b.modulus ≟ pos 0) (is (not (a.constant ≟ b.constant))) (is (not (rem_z a.constant b.modulus ≟ b.constant))))
     (pick (b.modulus ≟ pos 0) (is (not (rem_z b.constant a.modulus ≟ a.constant)))
-    (indivisible (exactly w64 (a.constant -ℤ b.constant)) (gcdOf a.modulus b.modulus)))
+    (indivisible (exactly w64 (a.constant -ℤ b.constant)) (gcd_of a.modulus b.modulus)))
 
 -- what follows from a truth, or its refusal
-unfoldable pub onTruth : Answer Bool → Answer Congruence → Answer Congruence → Answer Congruence
-onTruth (is true) x y = x
-onTruth (is false) x y = y
-onTruth (refused n) x y = refused n
+unfoldable pub on_truth : Answer Bool → Answer Congruence → Answer Congruence → Answer Congruence
+on_truth (is true) x y = x
+on_truth (is false) x y = y
+on_truth (refused n) x y = refused n
 
 -- 1 for one and the same single number, else top
-unfoldable pub oneNumber : Congruence → Congruence → Congruence
-oneNumber a b = pick ((a.modulus ≟ pos 0) && only? b a.constant) (cong (pos 1) (pos 0)) top
+unfoldable pub one_number : Congruence → Congruence → Congruence
+one_number a b = pick ((a.modulus ≟ pos 0) && only? b a.constant) (cong (pos 1) (pos 0)) top
 
 unfoldable pub equated : Congruence → Congruence → Answer Congruence
-equated a b = onTruth (separated a b) (is (cong (pos 0) (pos 0))) (is (oneNumber a b))
+equated a b = on_truth (separated a b) (is (cong (pos 0) (pos 0))) (is (one_number a b))
 
 unfoldable pub conjoined : Congruence → Congruence → Congruence
 conjoined a b =
@@ -125,7 +125,7 @@ unfoldable pub joined : Congruence → Congruence → Answer Congruence
 joined a b =
     pick (bottom? a) (is b)
     (pick (bottom? b) (is a)
-    (made (exact.Is a.constant) (gcdThen w64 (gcdOf a.modulus b.modulus) (absThen w64 (exactly w64 (a.constant -ℤ b.constant))))))
+    (made (exact.Is a.constant) (gcd_then w64 (gcd_of a.modulus b.modulus) (abs_then w64 (exactly w64 (a.constant -ℤ b.constant))))))
 
 -- the left constant modulo the lcm
 unfoldable pub reduced : ℤ → Exact → Answer Congruence
@@ -133,17 +133,17 @@ reduced c exact.DoesNotFit = refused 2
 reduced c (exact.Is m) = is (normalize (rem_z c m) m)
 
 -- of two classes
-unfoldable pub metClasses : Congruence → Congruence → Answer Congruence
-metClasses a b =
-    onTruth (indivisible (absThen w64 (exactly w64 (a.constant -ℤ b.constant))) (gcdOf a.modulus b.modulus)) (is bottom)
-    (reduced a.constant (lcmOf a.modulus b.modulus))
+unfoldable pub met_classes : Congruence → Congruence → Answer Congruence
+met_classes a b =
+    on_truth (indivisible (abs_then w64 (exactly w64 (a.constant -ℤ b.constant))) (gcd_of a.modulus b.modulus)) (is bottom)
+    (reduced a.constant (lcm_of a.modulus b.modulus))
 
 unfoldable pub met : Congruence → Congruence → Answer Congruence
 met a b =
     pick (bottom? a || bottom? b) (is bottom)
-    (pick (a.modulus ≟ pos 0) (onTruth (separated a b) (is bottom) (is a))
-    (pick (b.modulus ≟ pos 0) (onTruth (separated a b) (is bottom) (is b))
-    (metClasses a b)))
+    (pick (a.modulus ≟ pos 0) (on_truth (separated a b) (is bottom) (is a))
+    (pick (b.modulus ≟ pos 0) (on_truth (separated a b) (is bottom) (is b))
+    (met_classes a b)))
 
 unfoldable pub narrowed : Congruence → Congruence → Congruence
 narrowed new previous = pick (same? previous top) new previous
@@ -156,15 +156,15 @@ negated a = pick (bottom? a) (is a) (asserted (exactly w64 (neg_ℤ a.constant))
 unfoldable pub added : Congruence → Congruence → Answer Congruence
 added a b =
     pick (bottom? a || bottom? b) (is bottom)
-    (made (exactly w64 (a.constant +ℤ b.constant)) (gcdOf a.modulus b.modulus))
+    (made (exactly w64 (a.constant +ℤ b.constant)) (gcd_of a.modulus b.modulus))
 
 -- a + (-b): the negation goes first, even beside the bottom
-unfoldable pub addedTo : Congruence → Answer Congruence → Answer Congruence
-addedTo a (is b) = added a b
-addedTo a (refused n) = refused n
+unfoldable pub added_to : Congruence → Answer Congruence → Answer Congruence
+added_to a (is b) = added a b
+added_to a (refused n) = refused n
 
 unfoldable pub subtracted : Congruence → Congruence → Answer Congruence
-subtracted a b = addedTo a (negated b)
+subtracted a b = added_to a (negated b)
 
 unfoldable pub multiplied : Congruence → Congruence → Answer Congruence
 multiplied a b =
@@ -194,17 +194,17 @@ disjoint a b = within (domain? a && domain? b) (separated a b)
 abbrev pub equals : Congruence → Congruence → Answer Congruence
 equals a b = within (domain? a && domain? b) (equated a b)
 
-abbrev pub logicalAnd : Congruence → Congruence → Answer Congruence
-logicalAnd a b = within (domain? a && domain? b) (is (conjoined a b))
+abbrev pub logical_and : Congruence → Congruence → Answer Congruence
+logical_and a b = within (domain? a && domain? b) (is (conjoined a b))
 
-abbrev pub logicalOr : Congruence → Congruence → Answer Congruence
-logicalOr a b = within (domain? a && domain? b) (is (disjoined a b))
+abbrev pub logical_or : Congruence → Congruence → Answer Congruence
+logical_or a b = within (domain? a && domain? b) (is (disjoined a b))
 
-abbrev pub logicalNot : Congruence → Answer Congruence
-logicalNot a = within (domain? a) (is (inverted a))
+abbrev pub logical_not : Congruence → Answer Congruence
+logical_not a = within (domain? a) (is (inverted a))
 
-abbrev pub strictCmp : Congruence → Congruence → Answer Order
-strictCmp a b = within (domain? a && domain? b) (is (compared a b))
+abbrev pub strict_cmp : Congruence → Congruence → Answer Order
+strict_cmp a b = within (domain? a && domain? b) (is (compared a b))
 
 abbrev pub partial_cmp : Congruence → Congruence → Answer Order
 partial_cmp a b = within (domain? a && domain? b) (is (ordered a b))

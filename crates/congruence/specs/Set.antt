@@ -6,7 +6,7 @@ use Rattle.std.proofs.Common.{SFits}
 use Rattle.whole.specs.Choice.{pick}
 use Rattle.whole.specs.Test.{◌<?◌, ◌≟◌}
 use Rattle.whole.specs.Range.{fits?}
-use Rattle.whole.specs.Divides.{Cong, floorRem}
+use Rattle.whole.specs.Divides.{Cong, floor_rem}
 use Rattle.congruence.specs.declared.Congruence.{Congruence}
 
 abbrev pub cong : ℤ → ℤ → Congruence
@@ -44,8 +44,8 @@ pub record InDomain (w : Width) (a : Congruence) : Type 0 where
   pub modulus-fits : SFits w a.modulus
 
 -- the test of it
-unfoldable pub domainAt? : Width → Congruence → Bool
-domainAt? w a = domain? a && (fits? w a.constant && fits? w a.modulus)
+unfoldable pub domain_at? : Width → Congruence → Bool
+domain_at? w a = domain? a && (fits? w a.constant && fits? w a.modulus)
 
 -- m = 0, the bottom, or 0 ≤ c < m
 pub data Canonical (a : Congruence) : Type 0 where
@@ -55,7 +55,7 @@ pub data Canonical (a : Congruence) : Type 0 where
 
 -- the canonical value that stands for the same numbers
 unfoldable pub form : Congruence → Congruence
-form a = pick (bottom? a) bottom (cong (floorRem a.constant a.modulus) a.modulus)
+form a = pick (bottom? a) bottom (cong (floor_rem a.constant a.modulus) a.modulus)
 
 -- both are single numbers
 unfoldable pub singles? : Congruence → Congruence → Bool

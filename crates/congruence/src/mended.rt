@@ -2,7 +2,7 @@
 // Lattice, arithmetic, comparisons.
 ghost use Rattle.std.specs.Prelude.{◌≡◌};
 ghost use Rattle.std.specs.Int.{w64};
-ghost use Rattle.congruence.specs.Answer.{told, truthTold, orderTold};
+ghost use Rattle.congruence.specs.Answer.{told, truth_told, order_told};
 ghost use Rattle.congruence.specs.Mended as spec;
 
 use crate::{Congruence, CongruenceAnswer, OrderAnswer, TruthAnswer, sized};
@@ -11,13 +11,13 @@ use whole::Size;
 // ---- lattice
 
 pub fn disjoint(a: Congruence, b: Congruence) -> TruthAnswer
-    ensures { truthTold result ≡ spec.disjoint w64 a b }
+    ensures { truth_told result ≡ spec.disjoint w64 a b }
 {
     sized::disjoint(Size::B64, a, b)
 }
 
 pub fn partial_cmp(a: Congruence, b: Congruence) -> OrderAnswer
-    ensures { orderTold result ≡ spec.partial_cmp w64 a b }
+    ensures { order_told result ≡ spec.partial_cmp w64 a b }
 {
     sized::partial_cmp(Size::B64, a, b)
 }
@@ -93,13 +93,13 @@ pub fn greater(a: Congruence, b: Congruence) -> CongruenceAnswer
 }
 
 pub fn less_or_equal(a: Congruence, b: Congruence) -> CongruenceAnswer
-    ensures { told result ≡ spec.lessOrEqual w64 a b }
+    ensures { told result ≡ spec.less_or_equal w64 a b }
 {
     sized::less_or_equal(Size::B64, a, b)
 }
 
 pub fn greater_or_equal(a: Congruence, b: Congruence) -> CongruenceAnswer
-    ensures { told result ≡ spec.greaterOrEqual w64 a b }
+    ensures { told result ≡ spec.greater_or_equal w64 a b }
 {
     sized::greater_or_equal(Size::B64, a, b)
 }

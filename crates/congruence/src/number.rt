@@ -4,7 +4,7 @@ ghost use Rattle.std.specs.Prelude.{◌≡◌, ◌+◌, ◌-◌, nat_abs, ◌-�
 ghost use Rattle.std.specs.Int.Signed.{rem_z};
 ghost use Rattle.whole.specs.Test.{◌≟◌};
 ghost use Rattle.whole.specs.Sized.{width_of};
-ghost use Rattle.congruence.specs.Numbers.{gcdThen, absThen, alike?};
+ghost use Rattle.congruence.specs.Numbers.{gcd_then, abs_then, alike?};
 
 use whole::{Exact, Size, gcd_u64, magnitude, remainder};
 
@@ -16,7 +16,7 @@ pub fn leaves(x: i64, m: i64, c: i64) -> bool
 }
 
 pub fn gcd_then(size: Size, x: Exact, y: Exact) -> Exact
-    ensures { result ≡ gcdThen (width_of size) x y }
+    ensures { result ≡ gcd_then (width_of size) x y }
 {
     match x {
         Exact::DoesNotFit => Exact::DoesNotFit,
@@ -28,7 +28,7 @@ pub fn gcd_then(size: Size, x: Exact, y: Exact) -> Exact
 }
 
 pub fn abs_then(size: Size, x: Exact) -> Exact
-    ensures { result ≡ absThen (width_of size) x }
+    ensures { result ≡ abs_then (width_of size) x }
 {
     match x {
         Exact::DoesNotFit => Exact::DoesNotFit,

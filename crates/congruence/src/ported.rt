@@ -2,7 +2,7 @@
 ghost use Rattle.std.specs.Prelude.{◌≡◌};
 ghost use Rattle.refusal.specs.Answer.{is};
 ghost use Rattle.congruence.specs.Set.{cong, bottom};
-ghost use Rattle.congruence.specs.Answer.{told, truthTold, orderTold, singleTold};
+ghost use Rattle.congruence.specs.Answer.{told, truth_told, order_told, single_told};
 ghost use Rattle.congruence.specs.Ported as spec;
 
 use crate::number::{abs_then, gcd_then, leaves};
@@ -59,7 +59,7 @@ fn asserted(c: Exact, m: Exact) -> CongruenceAnswer
 
 // d % g != 0.
 fn indivisible(d: Exact, g: Exact) -> TruthAnswer
-    ensures { truthTold result ≡ spec.indivisible d g }
+    ensures { truth_told result ≡ spec.indivisible d g }
 {
     match g {
         Exact::DoesNotFit => TruthAnswer::Refused(Refusal::DoesNotFit),
@@ -71,7 +71,7 @@ fn indivisible(d: Exact, g: Exact) -> TruthAnswer
 }
 
 fn on_truth(t: TruthAnswer, yes: CongruenceAnswer, no: CongruenceAnswer) -> CongruenceAnswer
-    ensures { told result ≡ spec.onTruth (truthTold t) (told yes) (told no) }
+    ensures { told result ≡ spec.on_truth (truth_told t) (told yes) (told no) }
 {
     match t {
         TruthAnswer::Refused(r) => CongruenceAnswer::Refused(r),
@@ -145,7 +145,7 @@ fn ordered(a: Congruence, b: Congruence) -> Order
 }
 
 pub fn partial_cmp(a: Congruence, b: Congruence) -> OrderAnswer
-    ensures { orderTold result ≡ spec.partial_cmp a b }
+    ensures { order_told result ≡ spec.partial_cmp a b }
 {
     if both_in_domain(a, b) {
         OrderAnswer::Is(ordered(a, b))
@@ -189,7 +189,7 @@ fn reduced(c: i64, m: Exact) -> CongruenceAnswer
 
 // The left constant modulo the lcm, unless the classes are apart. The lcm isn't worked out where they are.
 fn met_unless(apart: TruthAnswer, a: Congruence, b: Congruence) -> CongruenceAnswer
-    ensures { told result ≡ spec.onTruth (truthTold apart) (is bottom) (spec.reduced a.constant (spec.lcmOf a.modulus b.modulus)) }
+    ensures { told result ≡ spec.on_truth (truth_told apart) (is bottom) (spec.reduced a.constant (spec.lcm_of a.modulus b.modulus)) }
 {
     match apart {
         TruthAnswer::Refused(r) => CongruenceAnswer::Refused(r),
@@ -205,7 +205,7 @@ fn met_unless(apart: TruthAnswer, a: Congruence, b: Congruence) -> CongruenceAns
 
 // Two classes: apart if the gcd doesn't divide the difference of the constants.
 fn met_classes(a: Congruence, b: Congruence) -> CongruenceAnswer
-    ensures { told result ≡ spec.metClasses a b }
+    ensures { told result ≡ spec.met_classes a b }
 {
     let g = gcd(a.modulus, b.modulus);
     let d = abs_then(Size::B64, exact_sub(a.constant, b.constant));
@@ -389,7 +389,7 @@ pub fn div(a: Congruence, b: Congruence) -> CongruenceAnswer
 // ---- comparisons and logic
 
 pub fn singleton(a: Congruence) -> SingleAnswer
-    ensures { singleTold result ≡ spec.singleton a }
+    ensures { single_told result ≡ spec.singleton a }
 {
     if !a.in_domain() {
         return SingleAnswer::Refused(Refusal::NotInDomain);
@@ -402,7 +402,7 @@ pub fn singleton(a: Congruence) -> SingleAnswer
 }
 
 fn separated(a: Congruence, b: Congruence) -> TruthAnswer
-    ensures { truthTold result ≡ spec.separated a b }
+    ensures { truth_told result ≡ spec.separated a b }
 {
     if a.modulus == 0 {
         return if b.modulus == 0 {
@@ -419,7 +419,7 @@ fn separated(a: Congruence, b: Congruence) -> TruthAnswer
 }
 
 pub fn disjoint(a: Congruence, b: Congruence) -> TruthAnswer
-    ensures { truthTold result ≡ spec.disjoint a b }
+    ensures { truth_told result ≡ spec.disjoint a b }
 {
     if both_in_domain(a, b) {
         separated(a, b)
@@ -440,7 +440,7 @@ fn equated(a: Congruence, b: Congruence) -> CongruenceAnswer
 
 // 1 for one and the same single number, else top.
 fn one_number(a: Congruence, b: Congruence) -> Congruence
-    ensures { result ≡ spec.oneNumber a b }
+    ensures { result ≡ spec.one_number a b }
 {
     if a.modulus == 0 {
         if only(b, a.constant) {
@@ -477,7 +477,7 @@ fn conjoined(a: Congruence, b: Congruence) -> Congruence
 }
 
 pub fn logical_and(a: Congruence, b: Congruence) -> CongruenceAnswer
-    ensures { told result ≡ spec.logicalAnd a b }
+    ensures { told result ≡ spec.logical_and a b }
 {
     if both_in_domain(a, b) {
         CongruenceAnswer::Is(conjoined(a, b))
@@ -503,7 +503,7 @@ fn disjoined(a: Congruence, b: Congruence) -> Congruence
 }
 
 pub fn logical_or(a: Congruence, b: Congruence) -> CongruenceAnswer
-    ensures { told result ≡ spec.logicalOr a b }
+    ensures { told result ≡ spec.logical_or a b }
 {
     if both_in_domain(a, b) {
         CongruenceAnswer::Is(disjoined(a, b))
@@ -525,7 +525,7 @@ fn inverted(a: Congruence) -> Congruence
 }
 
 pub fn logical_not(a: Congruence) -> CongruenceAnswer
-    ensures { told result ≡ spec.logicalNot a }
+    ensures { told result ≡ spec.logical_not a }
 {
     if a.in_domain() {
         CongruenceAnswer::Is(inverted(a))
@@ -550,7 +550,7 @@ fn compared(a: Congruence, b: Congruence) -> Order
 }
 
 pub fn strict_cmp(a: Congruence, b: Congruence) -> OrderAnswer
-    ensures { orderTold result ≡ spec.strictCmp a b }
+    ensures { order_told result ≡ spec.strict_cmp a b }
 {
     if both_in_domain(a, b) {
         OrderAnswer::Is(compared(a, b))

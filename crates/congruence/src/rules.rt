@@ -1,7 +1,7 @@
 // The mended rules on canonical values, at a size of numbers: lattice, arithmetic, comparisons. Their answers are canonical.
 ghost use Rattle.std.specs.Prelude.{◌≡◌, pos, nat_abs, ◌+ℤ◌, ◌-ℤ◌, ◌<ℤ◌};
 ghost use Rattle.whole.specs.Test.{◌≤?◌, ◌<?◌};
-ghost use Rattle.whole.specs.Divides.{gcd, floorRem};
+ghost use Rattle.whole.specs.Divides.{gcd, floor_rem};
 ghost use Rattle.whole.specs.Sized.{width_of};
 ghost use Rattle.congruence.specs.Mended as spec;
 
@@ -49,7 +49,7 @@ fn class_of(size: Size, z: i64, m: u64) -> Congruence
 }
 
 fn only_of(z: Exact) -> Congruence
-    ensures { result ≡ spec.onlyOf z }
+    ensures { result ≡ spec.only_of z }
 {
     match z {
         Exact::Is(k) => Congruence {
@@ -63,7 +63,7 @@ fn only_of(z: Exact) -> Congruence
 // x + y modulo m, from 0 up: no sum of the way is m or more.
 fn sum_modulo(x: i64, y: i64, m: i64) -> i64
     requires { pos 0 <ℤ m }
-    ensures { result ≡ floorRem (x +ℤ y) m }
+    ensures { result ≡ floor_rem (x +ℤ y) m }
 {
     let a = floored_remainder(x, m);
     let b = floored_remainder(y, m);
@@ -73,7 +73,7 @@ fn sum_modulo(x: i64, y: i64, m: i64) -> i64
 // x - y modulo m, from 0 up.
 fn difference_modulo(x: i64, y: i64, m: i64) -> i64
     requires { pos 0 <ℤ m }
-    ensures { result ≡ floorRem (x -ℤ y) m }
+    ensures { result ≡ floor_rem (x -ℤ y) m }
 {
     let a = floored_remainder(x, m);
     let b = floored_remainder(y, m);
@@ -82,7 +82,7 @@ fn difference_modulo(x: i64, y: i64, m: i64) -> i64
 
 // The numbers x + y modulo m.
 fn sum_class(size: Size, x: i64, y: i64, m: u64) -> Congruence
-    ensures { result ≡ spec.exactOf (width_of size) (x +ℤ y) m }
+    ensures { result ≡ spec.exact_of (width_of size) (x +ℤ y) m }
 {
     if m == 0 {
         return only_of(size.add(x, y));
@@ -98,7 +98,7 @@ fn sum_class(size: Size, x: i64, y: i64, m: u64) -> Congruence
 
 // The numbers x - y modulo m.
 fn difference_class(size: Size, x: i64, y: i64, m: u64) -> Congruence
-    ensures { result ≡ spec.exactOf (width_of size) (x -ℤ y) m }
+    ensures { result ≡ spec.exact_of (width_of size) (x -ℤ y) m }
 {
     if m == 0 {
         return only_of(size.sub(x, y));
@@ -244,7 +244,7 @@ pub fn product(size: Size, a: Congruence, b: Congruence) -> Congruence
 }
 
 fn by_number(size: Size, a: Congruence, d: i64) -> Congruence
-    ensures { result ≡ spec.byNumber (width_of size) a d }
+    ensures { result ≡ spec.by_number (width_of size) a d }
 {
     if divisible(a, d) {
         let q = size.quotient(a.constant, d);

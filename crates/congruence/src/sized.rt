@@ -4,8 +4,8 @@ ghost use Rattle.std.specs.Prelude.{◌≡◌, ◌&&◌};
 ghost use Rattle.whole.specs.Range.{fits?};
 ghost use Rattle.whole.specs.Sized.{width_of};
 ghost use Rattle.refusal.specs.Answer.{is};
-ghost use Rattle.congruence.specs.Answer.{told, truthTold, orderTold, within};
-ghost use Rattle.congruence.specs.Set.{domainAt?};
+ghost use Rattle.congruence.specs.Answer.{told, truth_told, order_told, within};
+ghost use Rattle.congruence.specs.Set.{domain_at?};
 ghost use Rattle.congruence.specs.Mended as spec;
 
 use crate::{Congruence, CongruenceAnswer, OrderAnswer, TruthAnswer, form, rules};
@@ -26,7 +26,7 @@ fn numbers_fit(size: Size, a: Congruence) -> bool
 
 // A value of the domain, and both its numbers are of the width.
 pub fn in_domain(size: Size, a: Congruence) -> bool
-    ensures { result ≡ domainAt? (width_of size) a }
+    ensures { result ≡ domain_at? (width_of size) a }
 {
     if a.in_domain() {
         numbers_fit(size, a)
@@ -36,7 +36,7 @@ pub fn in_domain(size: Size, a: Congruence) -> bool
 }
 
 fn both_in_domain(size: Size, a: Congruence, b: Congruence) -> bool
-    ensures { result ≡ (domainAt? (width_of size) a && domainAt? (width_of size) b) }
+    ensures { result ≡ (domain_at? (width_of size) a && domain_at? (width_of size) b) }
 {
     if in_domain(size, a) {
         in_domain(size, b)
@@ -57,7 +57,7 @@ fn value_if(inside: bool, v: Congruence) -> CongruenceAnswer
 }
 
 fn truth_if(inside: bool, t: bool) -> TruthAnswer
-    ensures { truthTold result ≡ within inside (is t) }
+    ensures { truth_told result ≡ within inside (is t) }
 {
     if inside {
         TruthAnswer::Is(t)
@@ -67,7 +67,7 @@ fn truth_if(inside: bool, t: bool) -> TruthAnswer
 }
 
 fn order_if(inside: bool, o: Order) -> OrderAnswer
-    ensures { orderTold result ≡ within inside (is o) }
+    ensures { order_told result ≡ within inside (is o) }
 {
     if inside {
         OrderAnswer::Is(o)
@@ -79,13 +79,13 @@ fn order_if(inside: bool, o: Order) -> OrderAnswer
 // ---- lattice
 
 pub fn disjoint(size: Size, a: Congruence, b: Congruence) -> TruthAnswer
-    ensures { truthTold result ≡ spec.disjoint (width_of size) a b }
+    ensures { truth_told result ≡ spec.disjoint (width_of size) a b }
 {
     truth_if(both_in_domain(size, a, b), rules::apart(form(a), form(b)))
 }
 
 pub fn partial_cmp(size: Size, a: Congruence, b: Congruence) -> OrderAnswer
-    ensures { orderTold result ≡ spec.partial_cmp (width_of size) a b }
+    ensures { order_told result ≡ spec.partial_cmp (width_of size) a b }
 {
     order_if(
         both_in_domain(size, a, b),
@@ -185,13 +185,13 @@ pub fn greater(size: Size, a: Congruence, b: Congruence) -> CongruenceAnswer
 }
 
 pub fn less_or_equal(size: Size, a: Congruence, b: Congruence) -> CongruenceAnswer
-    ensures { told result ≡ spec.lessOrEqual (width_of size) a b }
+    ensures { told result ≡ spec.less_or_equal (width_of size) a b }
 {
     value_if(both_in_domain(size, a, b), rules::at_most(form(a), form(b)))
 }
 
 pub fn greater_or_equal(size: Size, a: Congruence, b: Congruence) -> CongruenceAnswer
-    ensures { told result ≡ spec.greaterOrEqual (width_of size) a b }
+    ensures { told result ≡ spec.greater_or_equal (width_of size) a b }
 {
     less_or_equal(size, b, a)
 }

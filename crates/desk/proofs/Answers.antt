@@ -10,20 +10,20 @@ use Rattle.sheet.specs.Got.{got, refused}
 use Rattle.sheet.specs.Step.{Step}
 use Rattle.sheet.specs.Sheet.{parse}
 use Rattle.step.specs.Stopping.{stopping}
-use Rattle.desk.specs.Check.{checkSheet}
-use Rattle.desk.specs.Answer.{nothing, refusedBy, at_byte, result_of, checkedOn, checking}
+use Rattle.desk.specs.Check.{check_sheet}
+use Rattle.desk.specs.Answer.{nothing, refused_by, at_byte, result_of, checked_on, checking}
 
 module _ (w : Width) (steps : List Step) (room : List ℤ) where
-  pub checked-short : length room < length steps * 5 → checkedOn w steps room ≡ nothing (refusedBy 16)
-  unfolding checkedOn
+  pub checked-short : length room < length steps * 5 → checked_on w steps room ≡ nothing (refused_by 16)
+  unfolding checked_on
   checked-short h = rw (lt-leb (length steps * 5) (length room) h) refl
 
-  pub checked-all : length steps * 5 ≤ length room → checkedOn w steps room ≡ result_of (checkSheet (stopping w) steps)
-  unfolding checkedOn
+  pub checked-all : length steps * 5 ≤ length room → checked_on w steps room ≡ result_of (check_sheet (stopping w) steps)
+  unfolding checked_on
   checked-all h = rw (le-leb (length steps * 5) (length room) h) refl
 
 module _ (w : Width) (s : List ℕ) (room : List ℤ) where
-  pub checks-read : (steps : List Step) (p : ℕ) → parse s ≡ got steps p → checking w s room ≡ checkedOn w steps room
+  pub checks-read : (steps : List Step) (p : ℕ) → parse s ≡ got steps p → checking w s room ≡ checked_on w steps room
   unfolding checking
   checks-read steps p e = rw e refl
 

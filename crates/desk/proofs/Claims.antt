@@ -22,21 +22,21 @@ use Rattle.sheet.specs.Sheet.{parse}
 use Rattle.sheet.proofs.Claims.{read-valid}
 use Rattle.step.specs.declared.show.Shown.{Shown}
 use Rattle.step.specs.declared.Action.{Action}
-use Rattle.step.specs.Show.{zeroShown}
-use Rattle.step.specs.Run.{runOp}
+use Rattle.step.specs.Show.{zero_shown}
+use Rattle.step.specs.Run.{run_op}
 use Rattle.step.specs.Stopping.{InShown, stopping}
 use Rattle.step.proofs.Claims.{lawful}
-use Rattle.panel.specs.Run.{actionsOf, suits?, runSheet}
-use Rattle.panel.specs.Answer.{endedWith, runTold, RanAt, Ran}
+use Rattle.panel.specs.Run.{actions_of, suits?, run_sheet}
+use Rattle.panel.specs.Answer.{ended_with, run_told, RanAt, Ran}
 use Rattle.panel.specs.declared.RunAnswer.{RunAnswer}
 use Rattle.panel.specs.declared.RunAnswer.TheVariants.{Ended}
 use Rattle.panel.proofs.Claims.{run-told}
 use Rattle.panel.proofs.Told.{actions-length}
 use Rattle.panel.proofs.Answers.{runs-read, ran-suited}
-use Rattle.desk.specs.Check.{Check, passed, refusedAt, shownBy, checkFrom, checkSheet}
-use Rattle.desk.specs.Five.{flat, shownIn}
+use Rattle.desk.specs.Check.{Check, passed, refused_at, shown_by, check_from, check_sheet}
+use Rattle.desk.specs.Five.{flat, shown_in}
 use Rattle.desk.specs.Promise.{AllValid, AllGood, Suits, Each, none, next, Ends, StopsAfter}
-use Rattle.desk.specs.Answer.{Told, passedWith, atStep, at_byte, refusedBy, checkTold, Result, nothing, result_of, checkedOn, checking, CheckedAt, Checked}
+use Rattle.desk.specs.Answer.{Told, passed_with, at_step, at_byte, refused_by, check_told, Result, nothing, result_of, checked_on, checking, CheckedAt, Checked}
 use Rattle.desk.specs.Kept.{InRanges, Reaches, StopsThereAt, StopsThere, Within}
 use Rattle.desk.specs.declared.CheckAnswer.{CheckAnswer}
 use Rattle.desk.specs.declared.CheckAnswer.TheVariants.{Passed, RefusedAtStep, RefusedAt, Refused}
@@ -48,43 +48,43 @@ use Rattle.desk.proofs.Answers.{checks-read, checks-refused}
 -- ---- demand 3
 
 -- at a width, for a sheet whose constants and ends of ranges fit it
-module _ (w : Width) (steps : List Step) (valid : AllValid (stopping w) (actionsOf steps)) where
+module _ (w : Width) (steps : List Step) (valid : AllValid (stopping w) (actions_of steps)) where
   -- if the sheet passes, then for all inputs in their ranges the run reaches the last step and each number lies in what is shown
-  pub passed-runs-at : (vs : List Shown) → checkSheet (stopping w) steps ≡ passed vs → (ins : List ℤ) → Suits (actionsOf steps) ins → Ends (stopping w) (runSheet (runOp w) ins steps) vs
-  passed-runs-at vs c ins t = Demand.passed-runs (stopping w) (lawful w) (actionsOf steps) valid vs c ins t
+  pub passed-runs-at : (vs : List Shown) → check_sheet (stopping w) steps ≡ passed vs → (ins : List ℤ) → Suits (actions_of steps) ins → Ends (stopping w) (run_sheet (run_op w) ins steps) vs
+  passed-runs-at vs c ins t = Demand.passed-runs (stopping w) (lawful w) (actions_of steps) valid vs c ins t
 
   -- if it is refused at a step, all earlier steps pass, and the operands' shown ranges hold numbers, each drawn from its own, on which that step stops for that reason
-  pub refused-stops-at : (vs : List Shown) (r : Refusal) → checkSheet (stopping w) steps ≡ refusedAt vs r → StopsAfter (stopping w) (checkFrom (stopping w) []) (actionsOf steps) vs r
-  refused-stops-at vs r c = Demand.refused-stops (stopping w) (lawful w) (actionsOf steps) valid vs r c
+  pub refused-stops-at : (vs : List Shown) (r : Refusal) → check_sheet (stopping w) steps ≡ refused_at vs r → StopsAfter (stopping w) (check_from (stopping w) []) (actions_of steps) vs r
+  refused-stops-at vs r c = Demand.refused-stops (stopping w) (lawful w) (actions_of steps) valid vs r c
 
   -- each shown value has a range with a number, whose numbers fit, and a canonical spacing of the width
-  pub shown-good-at : AllGood (stopping w) (shownBy (checkSheet (stopping w) steps))
-  shown-good-at = Demand.all-good (stopping w) (lawful w) (actionsOf steps) valid
+  pub shown-good-at : AllGood (stopping w) (shown_by (check_sheet (stopping w) steps))
+  shown-good-at = Demand.all-good (stopping w) (lawful w) (actions_of steps) valid
 
 -- at 64 bits, for every sheet that is read
 within_64 : (s : List ℕ) → Bytes s → Within w64 s
 within_64 s bytes steps end read = all_valid steps (read-valid s bytes steps end read).steps
 
 module _ (s : List ℕ) (bytes : Bytes s) (steps : List Step) (end : ℕ) (read : parse s ≡ got steps end) where
-  pub passed-sheet-runs : (vs : List Shown) → checkSheet (stopping w64) steps ≡ passed vs → (ins : List ℤ) → Suits (actionsOf steps) ins → Ends (stopping w64) (runSheet (runOp w64) ins steps) vs
+  pub passed-sheet-runs : (vs : List Shown) → check_sheet (stopping w64) steps ≡ passed vs → (ins : List ℤ) → Suits (actions_of steps) ins → Ends (stopping w64) (run_sheet (run_op w64) ins steps) vs
   passed-sheet-runs = passed-runs-at w64 steps (within_64 s bytes steps end read)
 
-  pub refused-step-stops : (vs : List Shown) (r : Refusal) → checkSheet (stopping w64) steps ≡ refusedAt vs r → StopsAfter (stopping w64) (checkFrom (stopping w64) []) (actionsOf steps) vs r
+  pub refused-step-stops : (vs : List Shown) (r : Refusal) → check_sheet (stopping w64) steps ≡ refused_at vs r → StopsAfter (stopping w64) (check_from (stopping w64) []) (actions_of steps) vs r
   refused-step-stops = refused-stops-at w64 steps (within_64 s bytes steps end read)
 
-  pub shown-good : AllGood (stopping w64) (shownBy (checkSheet (stopping w64) steps))
+  pub shown-good : AllGood (stopping w64) (shown_by (check_sheet (stopping w64) steps))
   shown-good = shown-good-at w64 steps (within_64 s bytes steps end read)
 
 -- ---- what is answered is determined
 
 -- the answer of what is told
-abbrev checkBack : Told → CheckAnswer
-checkBack (passedWith n) = Passed n
-checkBack (atStep k r) = RefusedAtStep (with_number r) k
-checkBack (at_byte r p) = RefusedAt (with_number r) p
-checkBack (refusedBy r) = Refused (with_number r)
+abbrev check_back : Told → CheckAnswer
+check_back (passed_with n) = Passed n
+check_back (at_step k r) = RefusedAtStep (with_number r) k
+check_back (at_byte r p) = RefusedAt (with_number r) p
+check_back (refused_by r) = Refused (with_number r)
 
-check-back : (r : CheckAnswer) → checkBack (checkTold r) ≡ r
+check-back : (r : CheckAnswer) → check_back (check_told r) ≡ r
 check-back (Passed n) = refl
 check-back (RefusedAtStep r k) = ap (λ q. RefusedAtStep q k) (number-back r)
 check-back (RefusedAt r p) = ap (λ q. RefusedAt q p) (number-back r)
@@ -92,7 +92,7 @@ check-back (Refused r) = ap Refused (number-back r)
 
 -- any two answers that the promise of `check` admits are equal, and the rooms with them
 pub check-determined : (bytes : List ℕ) (room after after' : List ℤ) (r r' : CheckAnswer) → Checked bytes room after r → Checked bytes room after' r' → (r ≡ r') × (after ≡ after')
-check-determined bytes room after after' r r' h h' = (sym (check-back r) ∙ ap checkBack (h.0 ∙ sym h'.0) ∙ check-back r', h.1 ∙ sym h'.1)
+check-determined bytes room after after' r r' h h' = (sym (check-back r) ∙ ap check_back (h.0 ∙ sym h'.0) ∙ check-back r', h.1 ∙ sym h'.1)
 
 -- ---- demand 3 for the answers of `check` and `run`
 
@@ -103,18 +103,18 @@ each-as-many w (next h e) = ap suc (each-as-many w e)
 -- the check of a sheet that was read, if the room suffices
 record Walked (w : Width) (steps : List Step) (room after : List ℤ) (t : Told) : Type 0 where
   check : Check Shown
-  is : checkSheet (stopping w) steps ≡ check
+  is : check_sheet (stopping w) steps ≡ check
   tells : t ≡ (result_of check).told
   stands : after ≡ sets room 0 (result_of check).numbers
   enough : length steps * 5 ≤ length room
 
-module _ (w : Width) (steps : List Step) (room after : List ℤ) (t : Told) (other : t ≢ refusedBy 16) where
-  walked : (t ≡ (checkedOn w steps room).told) × (after ≡ sets room 0 (checkedOn w steps room).numbers) → Walked w steps room after t
-  unfolding checkedOn
+module _ (w : Width) (steps : List Step) (room after : List ℤ) (t : Told) (other : t ≢ refused_by 16) where
+  walked : (t ≡ (checked_on w steps room).told) × (after ≡ sets room 0 (checked_on w steps room).numbers) → Walked w steps room after t
+  unfolding checked_on
   walked h = by-room (leb (length steps * 5) (length room)) refl h
     where
       Chosen : Bool → Result
-      Chosen b = pick b (result_of (checkSheet (stopping w) steps)) (nothing (refusedBy 16))
+      Chosen b = pick b (result_of (check_sheet (stopping w) steps)) (nothing (refused_by 16))
 
       by-room : (b : Bool) → leb (length steps * 5) (length room) ≡ b → (t ≡ (Chosen b).told) × (after ≡ sets room 0 (Chosen b).numbers) → Walked w steps room after t
       by-room true e h = record { check = _; is = refl; tells = h.0; stands = h.1; enough = leb-true (length steps * 5) (length room) e }
@@ -124,22 +124,22 @@ module _ (w : Width) (bytes : List ℕ) (within : Within w bytes) where
   -- if `check_at` passes a sheet, then for all inputs in their ranges `run_at` ends, and each number in its room lies in what stands in the check's room
   pub passed-at : (room shown : List ℤ) (n : ℕ) → CheckedAt w bytes room shown (Passed n) → (ins : List ℤ) → InRanges bytes ins → (room' numbers : List ℤ) (r : RunAnswer) → n ≤ length room' → RanAt w bytes ins room' numbers r → Reaches n shown numbers r
   passed-at room shown n h ins i room' numbers r l g =
-      let k = walked w i.steps room shown (passedWith n) (λ e. let z : ◌≡◌ {A = ℕ} 0 1 = cc in omega arith) (rw (checks-read w bytes room i.steps i.end i.read) at h) in
+      let k = walked w i.steps room shown (passed_with n) (λ e. let z : ◌≡◌ {A = ℕ} 0 1 = cc in omega arith) (rw (checks-read w bytes room i.steps i.end i.read) at h) in
       by-check k.check k.is k.tells k.stands k.enough
     where
-      by-check : (c : Check Shown) → checkSheet (stopping w) i.steps ≡ c → passedWith n ≡ (result_of c).told → shown ≡ sets room 0 (result_of c).numbers → length i.steps * 5 ≤ length room → Reaches n shown numbers r
-      by-check (refusedAt vs q) c t s e = let z : ◌≡◌ {A = ℕ} 0 1 = cc in absurd (omega arith)
+      by-check : (c : Check Shown) → check_sheet (stopping w) i.steps ≡ c → passed_with n ≡ (result_of c).told → shown ≡ sets room 0 (result_of c).numbers → length i.steps * 5 ≤ length room → Reaches n shown numbers r
+      by-check (refused_at vs q) c t s e = let z : ◌≡◌ {A = ℕ} 0 1 = cc in absurd (omega arith)
       by-check (passed vs) c t s e =
           let d = passed-runs-at w i.steps (within i.steps i.end i.read) vs c ins i.suits in
           let m : n ≡ length vs = cc in
-          let y : length vs ≡ length i.steps = Demand.shows-each (stopping w) (actionsOf i.steps) vs c ∙ actions-length i.steps in
+          let y : length vs ≡ length i.steps = Demand.shows-each (stopping w) (actions_of i.steps) vs c ∙ actions-length i.steps in
           let x : length d.numbers ≡ length vs = each-as-many w d.each in
           let f : length (flat vs) ≤ length room = omega (arith, length-flat vs) in
-          let a : (runTold r ≡ endedWith (length d.numbers)) × (numbers ≡ sets room' 0 d.numbers) = rw (runs-read (runOp w) bytes ins room' i.steps i.end i.read, ran-suited (runOp w) i.steps ins room' (omega arith) (suits-tells (actionsOf i.steps) ins i.suits), d.ends) at g in
+          let a : (run_told r ≡ ended_with (length d.numbers)) × (numbers ≡ sets room' 0 d.numbers) = rw (runs-read (run_op w) bytes ins room' i.steps i.end i.read, ran-suited (run_op w) i.steps ins room' (omega arith) (suits-tells (actions_of i.steps) ins i.suits), d.ends) at g in
           record {
-            ends = run-told r (Ended n) (a.0 ∙ ap endedWith (x ∙ sym m));
+            ends = run-told r (Ended n) (a.0 ∙ ap ended_with (x ∙ sym m));
             lies = λ k j.
-                let p : shownIn shown k ≡ get_or vs k zeroShown = ap (λ t. shownIn t k) (s ∙ sets-eq (flat vs) room 0 (omega arith)) ∙ found vs _ k (omega arith) in
+                let p : shown_in shown k ≡ get_or vs k zero_shown = ap (λ t. shown_in t k) (s ∙ sets-eq (flat vs) room 0 (omega arith)) ∙ found vs _ k (omega arith) in
                 let q : get_or numbers k (pos 0) ≡ get_or d.numbers k (pos 0) = ap (λ t. get_or t k (pos 0)) (a.1 ∙ sets-eq d.numbers room' 0 (omega arith)) ∙ get_or-append d.numbers _ (pos 0) k (omega arith) in
                 rw (p, q) (Demand.look (stopping w) (lawful w) d.each k);
           }
@@ -148,12 +148,12 @@ module _ (w : Width) (bytes : List ℕ) (within : Within w bytes) where
   pub refused-at : (room shown : List ℤ) (r : Refusal) (k : ℕ) → CheckedAt w bytes room shown (RefusedAtStep r k) → StopsThereAt w bytes shown r k
   refused-at room shown r k h = by-parse (parse bytes) refl
     where
-      by-check : (steps : List Step) (end : ℕ) → parse bytes ≡ got steps end → (c : Check Shown) → checkSheet (stopping w) steps ≡ c → atStep k (number_of r) ≡ (result_of c).told → shown ≡ sets room 0 (result_of c).numbers → length steps * 5 ≤ length room → StopsThereAt w bytes shown r k
+      by-check : (steps : List Step) (end : ℕ) → parse bytes ≡ got steps end → (c : Check Shown) → check_sheet (stopping w) steps ≡ c → at_step k (number_of r) ≡ (result_of c).told → shown ≡ sets room 0 (result_of c).numbers → length steps * 5 ≤ length room → StopsThereAt w bytes shown r k
       by-check steps end g (passed vs) c t s e = let z : ◌≡◌ {A = ℕ} 0 1 = cc in absurd (omega arith)
-      by-check steps end g (refusedAt vs q) c t s e =
+      by-check steps end g (refused_at vs q) c t s e =
           let n : number_of q ≡ number_of r = cc in
           let m : length vs ≡ k = cc in
-          let d = refused-stops-at w steps (within steps end g) vs r (c ∙ ap (refusedAt vs) (number-tells q r n)) in
+          let d = refused-stops-at w steps (within steps end g) vs r (c ∙ ap (refused_at vs) (number-tells q r n)) in
           let y : length vs ≡ length d.before = Demand.shows-each (stopping w) d.before vs d.earlier in
           let x : length steps ≡ length d.before + suc (length d.after) = sym (actions-length steps) ∙ ap length d.parts ∙ length-append d.before (d.step ∷ d.after) in
           let f : length (flat vs) ≤ length room = omega (arith, length-flat vs) in
@@ -170,10 +170,10 @@ module _ (w : Width) (bytes : List ℕ) (within : Within w bytes) where
 
       by-parse : (g : Got (List Step)) → parse bytes ≡ g → StopsThereAt w bytes shown r k
       by-parse (got steps end) g =
-          let k' = walked w steps room shown (atStep k (number_of r)) (λ e. let z : ◌≡◌ {A = ℕ} 0 1 = cc in omega arith) (rw (checks-read w bytes room steps end g) at h) in
+          let k' = walked w steps room shown (at_step k (number_of r)) (λ e. let z : ◌≡◌ {A = ℕ} 0 1 = cc in omega arith) (rw (checks-read w bytes room steps end g) at h) in
           by-check steps end g k'.check k'.is k'.tells k'.stands k'.enough
       by-parse (refused n p) g =
-          let e : atStep k (number_of r) ≡ at_byte n p = (rw (checks-refused w bytes room n p g) at h).0 in
+          let e : at_step k (number_of r) ≡ at_byte n p = (rw (checks-refused w bytes room n p g) at h).0 in
           let z : ◌≡◌ {A = ℕ} 0 1 = cc in
           absurd (omega arith)
 
@@ -187,19 +187,19 @@ pub record Fives (n : ℕ) (shown : List ℤ) : Type 0 where
 pub shown-fives : (bytes : List ℕ) (room shown : List ℤ) (n : ℕ) → Checked bytes room shown (Passed n) → Fives n shown
 shown-fives bytes room shown n h = by-parse (parse bytes) refl
   where
-    by-check : (steps : List Step) (c : Check Shown) → checkSheet (stopping w64) steps ≡ c → passedWith n ≡ (result_of c).told → shown ≡ sets room 0 (result_of c).numbers → length steps * 5 ≤ length room → Fives n shown
-    by-check steps (refusedAt vs q) c t s e = let z : ◌≡◌ {A = ℕ} 0 1 = cc in absurd (omega arith)
+    by-check : (steps : List Step) (c : Check Shown) → check_sheet (stopping w64) steps ≡ c → passed_with n ≡ (result_of c).told → shown ≡ sets room 0 (result_of c).numbers → length steps * 5 ≤ length room → Fives n shown
+    by-check steps (refused_at vs q) c t s e = let z : ◌≡◌ {A = ℕ} 0 1 = cc in absurd (omega arith)
     by-check steps (passed vs) c t s e =
         let m : length vs ≡ n = cc in
-        let y : length vs ≡ length steps = Demand.shows-each (stopping w64) (actionsOf steps) vs c ∙ actions-length steps in
+        let y : length vs ≡ length steps = Demand.shows-each (stopping w64) (actions_of steps) vs c ∙ actions-length steps in
         record { values = vs; rest = _; many = m; in-room = s ∙ sets-eq (flat vs) room 0 (omega (arith, length-flat vs)) }
 
     by-parse : (g : Got (List Step)) → parse bytes ≡ g → Fives n shown
     by-parse (got steps end) g =
-        let k = walked w64 steps room shown (passedWith n) (λ e. let z : ◌≡◌ {A = ℕ} 0 1 = cc in omega arith) (rw (checks-read w64 bytes room steps end g) at h) in
+        let k = walked w64 steps room shown (passed_with n) (λ e. let z : ◌≡◌ {A = ℕ} 0 1 = cc in omega arith) (rw (checks-read w64 bytes room steps end g) at h) in
         by-check steps k.check k.is k.tells k.stands k.enough
     by-parse (refused m p) g =
-        let e : passedWith n ≡ at_byte m p = (rw (checks-refused w64 bytes room m p g) at h).0 in
+        let e : passed_with n ≡ at_byte m p = (rw (checks-refused w64 bytes room m p g) at h).0 in
         let z : ◌≡◌ {A = ℕ} 0 1 = cc in
         absurd (omega arith)
 

@@ -23,15 +23,15 @@ use Rattle.sheet.proofs.Claims.{read-valid}
 use Rattle.step.specs.declared.Action.{Action}
 use Rattle.step.specs.declared.Action.TheVariants.{Input, Does}
 use Rattle.step.specs.declared.show.Shown.{Shown}
-use Rattle.step.specs.Show.{zeroShown}
-use Rattle.step.specs.Run.{runOp}
+use Rattle.step.specs.Show.{zero_shown}
+use Rattle.step.specs.Run.{run_op}
 use Rattle.step.specs.Stopping.{InShown, stopping}
-use Rattle.panel.specs.Run.{actionsOf}
+use Rattle.panel.specs.Run.{actions_of}
 use Rattle.panel.specs.Answer.{Ran}
 use Rattle.panel.specs.declared.RunAnswer.{RunAnswer}
 use Rattle.panel.specs.declared.RunAnswer.TheVariants.{Ended}
-use Rattle.desk.specs.Check.{shownAt}
-use Rattle.desk.specs.Five.{flat, signAt, shownIn}
+use Rattle.desk.specs.Check.{shown_at}
+use Rattle.desk.specs.Five.{flat, sign_at, shown_in}
 use Rattle.desk.specs.Promise.{StepStops, stopping as stops-on}
 use Rattle.desk.specs.Answer.{Checked}
 use Rattle.desk.specs.Kept.{InRanges, StopsThere}
@@ -74,7 +74,7 @@ by-magnitude (pos n) z d = d
 by-magnitude (negsuc n) z d = ∣-trans (∣-neg (∣-refl (negsuc n))) d
 
 -- the sign's number stands in the fifth place
-sign-entry : (vs : List Shown) (rest : List ℤ) (k : ℕ) → k < length vs → entry (flat vs ++ rest) (k * 5 + 4) ≡ pos (index_of (get_or vs k zeroShown).sign)
+sign-entry : (vs : List Shown) (rest : List ℤ) (k : ℕ) → k < length vs → entry (flat vs ++ rest) (k * 5 + 4) ≡ pos (index_of (get_or vs k zero_shown).sign)
 unfolding flat
 sign-entry [] rest k h = absurd (omega arith)
 sign-entry (v ∷ vs) rest zero h = refl
@@ -82,21 +82,21 @@ sign-entry (v ∷ vs) rest (suc k) h =
     let e : suc k * 5 + 4 ≡ suc (suc (suc (suc (suc (k * 5 + 4))))) = omega arith in
     rw e (sign-entry vs rest k (omega arith))
 
-inside : (shown : List ℤ) (k : ℕ) (x : ℤ) (s : Sign) → entry shown (k * 5 + 4) ≡ pos (index_of s) → InShown (shownIn shown k) x → Inside shown k x
-unfolding shownIn
+inside : (shown : List ℤ) (k : ℕ) (x : ℤ) (s : Sign) → entry shown (k * 5 + 4) ≡ pos (index_of s) → InShown (shown_in shown k) x → Inside shown k x
+unfolding shown_in
 inside shown k x s e h = record {
   range = record { low = h.range.low; high = h.range.high };
   spacing = by-magnitude _ _ h.spacing.class;
   sign = rw e (says s x (rw (e, sign-back s) at h.sign));
 }
 
-in-range : (vs : List Shown) (shown rest : List ℤ) → shown ≡ flat vs ++ rest → (a : ℕ) (x : ℤ) → a < length vs → x ∈ʳ (get_or vs a zeroShown).range → x ∈ʳ (shownIn shown a).range
+in-range : (vs : List Shown) (shown rest : List ℤ) → shown ≡ flat vs ++ rest → (a : ℕ) (x : ℤ) → a < length vs → x ∈ʳ (get_or vs a zero_shown).range → x ∈ʳ (shown_in shown a).range
 in-range vs shown rest e a x h m =
-    let p : shownIn shown a ≡ get_or vs a zeroShown = ap (λ l. shownIn l a) e ∙ found vs rest a h in
+    let p : shown_in shown a ≡ get_or vs a zero_shown = ap (λ l. shown_in l a) e ∙ found vs rest a h in
     subst (λ (v : Shown). x ∈ʳ v.range) (sym p) m
 
-between : (shown : List ℤ) (a : ℕ) (x : ℤ) → x ∈ʳ (shownIn shown a).range → Between shown a x
-unfolding shownIn
+between : (shown : List ℤ) (a : ℕ) (x : ℤ) → x ∈ʳ (shown_in shown a).range → Between shown a x
+unfolding shown_in
 between shown a x q = record { low = q.low; high = q.high }
 
 -- ---- demand 3
@@ -108,7 +108,7 @@ module _ (bytes : List ℕ) (lent : Bytes bytes) (room shown : List ℤ) where
   passed-plainly n c ins i room' numbers r l g =
       let p = passed-code bytes lent room shown n c ins i room' numbers r l g in
       let f = shown-fives bytes room shown n c in
-      (p.ends, λ k h. inside shown k _ (get_or f.values k zeroShown).sign (ap (λ t. entry t (k * 5 + 4)) f.in-room ∙ sign-entry f.values f.rest k (omega (arith, f.many))) (p.lies k h))
+      (p.ends, λ k h. inside shown k _ (get_or f.values k zero_shown).sign (ap (λ t. entry t (k * 5 + 4)) f.in-room ∙ sign-entry f.values f.rest k (omega (arith, f.many))) (p.lies k h))
 
   -- if it refuses step k by r, that step names three earlier steps, and numbers between the ends shown of these stop it by r
   pub refused-plainly : (r : Refusal) (k : ℕ) → Checked bytes room shown (RefusedAtStep r k) → Stopping bytes shown r k
@@ -132,7 +132,7 @@ module _ (bytes : List ℕ) (lent : Bytes bytes) (room shown : List ℤ) where
           in-room : shown ≡ flat t.earlier ++ drop (k * 5) shown
           in-room = sym (take-append-drop (k * 5) shown) ∙ ap (λ l. l ++ drop (k * 5) shown) t.in-room
 
-          go : (s : Action) → StepStops (stopping w64) t.earlier r s → Names k s → get_or (actionsOf t.steps) k first_step ≡ s → Stopping bytes shown r k
+          go : (s : Action) → StepStops (stopping w64) t.earlier r s → Names k s → get_or (actions_of t.steps) k first_step ≡ s → Stopping bytes shown r k
           go _ (stops-on {o} {a} {b} {c} m) e q =
               let f = e m.x m.y m.z r m.stop in
               record {

@@ -15,8 +15,8 @@ use Rattle.sign.specs.declared.Sign.{Sign}
 use Rattle.sign.specs.declared.Sign.TheVariants.{Top, Bottom, Negative, Zero, Positive, NonNeg, NonZero, NonPos}
 use Rattle.sign.specs.Index.{index_of}
 use Rattle.step.specs.declared.show.Shown.{Shown}
-use Rattle.step.specs.Show.{shown, zeroShown}
-use Rattle.desk.specs.Five.{fiveOf, flat, signAt, shownIn, lookedUp, shownFirst}
+use Rattle.step.specs.Show.{shown, zero_shown}
+use Rattle.desk.specs.Five.{five_of, flat, sign_at, shown_in, looked_up, shown_first}
 
 pub sets-five : (l : List ℤ) (i : ℕ) (a b c d e : ℤ) → sets l i (a ∷ b ∷ c ∷ d ∷ e ∷ []) ≡ set (set (set (set (set l i a) (i + 1) b) (i + 2) c) (i + 3) d) (i + 4) e
 sets-five l i a b c d e =
@@ -26,8 +26,8 @@ sets-five l i a b c d e =
     let e₄ : i + 4 ≡ suc (suc (suc (suc i))) = omega arith in
     rw (e₁, e₂, e₃, e₄) refl
 
-pub sign-back : (s : Sign) → signAt (index_of s) ≡ s
-unfolding signAt
+pub sign-back : (s : Sign) → sign_at (index_of s) ≡ s
+unfolding sign_at
 sign-back Top = refl
 sign-back Bottom = refl
 sign-back Negative = refl
@@ -42,14 +42,14 @@ unfolding flat
 length-flat [] = refl
 length-flat (v ∷ vs) = omega (arith, length-flat vs)
 
-pub flat-more : (vs : List Shown) (v : Shown) → flat (vs ++ (v ∷ [])) ≡ flat vs ++ fiveOf v
+pub flat-more : (vs : List Shown) (v : Shown) → flat (vs ++ (v ∷ [])) ≡ flat vs ++ five_of v
 unfolding flat
 flat-more [] v = refl
-flat-more (u ∷ vs) v = ap (λ l. fiveOf u ++ l) (flat-more vs v)
+flat-more (u ∷ vs) v = ap (λ l. five_of u ++ l) (flat-more vs v)
 
 -- what stands at place p of steps that were put is what step p shows
-pub found : (vs : List Shown) (rest : List ℤ) (p : ℕ) → p < length vs → shownIn (flat vs ++ rest) p ≡ get_or vs p zeroShown
-unfolding shownIn flat
+pub found : (vs : List Shown) (rest : List ℤ) (p : ℕ) → p < length vs → shown_in (flat vs ++ rest) p ≡ get_or vs p zero_shown
+unfolding shown_in flat
 found [] rest p h = absurd (omega arith)
 found (v ∷ vs) rest zero h = rw (sign-back v.sign) refl
 found (v ∷ vs) rest (suc p) h =
@@ -61,31 +61,31 @@ found (v ∷ vs) rest (suc p) h =
     rw (e₁, e₂, e₃, e₄, e₀) (found vs rest p (omega arith))
 
 -- the first places of steps that were put are what they show
-first_found : (vs : List Shown) (rest : List ℤ) (k : ℕ) → k ≤ length vs → shownFirst (flat vs ++ rest) k ≡ take k vs
-unfolding shownFirst
+first_found : (vs : List Shown) (rest : List ℤ) (k : ℕ) → k ≤ length vs → shown_first (flat vs ++ rest) k ≡ take k vs
+unfolding shown_first
 first_found vs rest zero h = refl
-first_found vs rest (suc k) h = rw (first_found vs rest k (omega arith), found vs rest k (omega arith)) (sym (take-suc vs k zeroShown (omega arith)))
+first_found vs rest (suc k) h = rw (first_found vs rest k (omega arith), found vs rest k (omega arith)) (sym (take-suc vs k zero_shown (omega arith)))
 
-pub all_found : (vs : List Shown) (rest : List ℤ) → shownFirst (flat vs ++ rest) (length vs) ≡ vs
+pub all_found : (vs : List Shown) (rest : List ℤ) → shown_first (flat vs ++ rest) (length vs) ≡ vs
 all_found vs rest = first_found vs rest (length vs) (omega arith) ∙ take-length vs
 
-pub length-first : (l : List ℤ) (k : ℕ) → length (shownFirst l k) ≡ k
-unfolding shownFirst
+pub length-first : (l : List ℤ) (k : ℕ) → length (shown_first l k) ≡ k
+unfolding shown_first
 length-first l zero = refl
-length-first l (suc k) = omega (arith, length-append (shownFirst l k) (shownIn l k ∷ []), length-first l k)
+length-first l (suc k) = omega (arith, length-append (shown_first l k) (shown_in l k ∷ []), length-first l k)
 
-pub looked-in : (l : List ℤ) (k p : ℕ) → p < k → lookedUp l k p ≡ shownIn l p
-unfolding lookedUp
+pub looked-in : (l : List ℤ) (k p : ℕ) → p < k → looked_up l k p ≡ shown_in l p
+unfolding looked_up
 looked-in l k p h = rw (lt-ltb p k h) refl
 
 -- looking up among as many places as were put is looking up what was shown
-pub looked : (vs : List Shown) (rest : List ℤ) (k p : ℕ) → length vs ≡ k → lookedUp (flat vs ++ rest) k p ≡ get_or vs p zeroShown
-unfolding lookedUp
+pub looked : (vs : List Shown) (rest : List ℤ) (k p : ℕ) → length vs ≡ k → looked_up (flat vs ++ rest) k p ≡ get_or vs p zero_shown
+unfolding looked_up
 looked vs rest k p e = go (ltb p k) refl
   where
-    go : (b : Bool) → ltb p k ≡ b → pick b (shownIn (flat vs ++ rest) p) zeroShown ≡ get_or vs p zeroShown
+    go : (b : Bool) → ltb p k ≡ b → pick b (shown_in (flat vs ++ rest) p) zero_shown ≡ get_or vs p zero_shown
     go true t = found vs rest p (omega (arith, ltb-true p k t))
-    go false t = sym (get_or-eq_default vs zeroShown (omega (arith, ltb-false p k t)))
+    go false t = sym (get_or-eq_default vs zero_shown (omega (arith, ltb-false p k t)))
 
 -- ---- the room: k fives are put, and the rest is kept
 
@@ -97,7 +97,7 @@ module _ (vs : List Shown) (room₀ : List ℤ) (k : ℕ) (count : length vs ≡
   size : length (flat vs) ≡ k * 5
   size = omega (arith, length-flat vs)
 
-  pub fives-next : (room : List ℤ) (v : Shown) → room ≡ flat vs ++ drop (k * 5) room₀ → k * 5 + 5 ≤ length room₀ → sets room (k * 5) (fiveOf v) ≡ flat (vs ++ (v ∷ [])) ++ drop ((k + 1) * 5) room₀
+  pub fives-next : (room : List ℤ) (v : Shown) → room ≡ flat vs ++ drop (k * 5) room₀ → k * 5 + 5 ≤ length room₀ → sets room (k * 5) (five_of v) ≡ flat (vs ++ (v ∷ [])) ++ drop ((k + 1) * 5) room₀
   fives-next room v e h =
       let l : length room ≡ length room₀ = ap length e ∙ omega (arith, length-append (flat vs) (drop (k * 5) room₀), length-drop (k * 5) room₀, size) in
       let d : drop (k * 5 + 5) room ≡ drop ((k + 1) * 5) room₀ =
@@ -107,8 +107,8 @@ module _ (vs : List Shown) (room₀ : List ℤ) (k : ℕ) (count : length vs ≡
       ∙ drop-drop 5 (k * 5) room₀
       ∙ ap (λ t. drop t room₀) (five-more k)
       in
-      sets-eq (fiveOf v) room (k * 5) (omega arith)
-      ∙ ap₂ (λ a b. a ++ fiveOf v ++ b) (ap (λ t. take (k * 5) t) e ∙ take_at (flat vs) (drop (k * 5) room₀) (k * 5) size) d
+      sets-eq (five_of v) room (k * 5) (omega arith)
+      ∙ ap₂ (λ a b. a ++ five_of v ++ b) (ap (λ t. take (k * 5) t) e ∙ take_at (flat vs) (drop (k * 5) room₀) (k * 5) size) d
       ∙ ap (λ t. t ++ drop ((k + 1) * 5) room₀) (sym (flat-more vs v))
     where
       five-more : (k : ℕ) → k * 5 + 5 ≡ (k + 1) * 5

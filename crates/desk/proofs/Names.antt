@@ -23,9 +23,9 @@ use Rattle.step.specs.declared.Operator.TheVariants.{Constant}
 use Rattle.step.specs.declared.Action.{Action}
 use Rattle.step.specs.declared.Action.TheVariants.{Input, Does}
 use Rattle.step.specs.declared.Outcome.TheVariants.{Gives, Stops}
-use Rattle.step.specs.Kind.{operatorOf, actionOf}
-use Rattle.step.specs.Run.{runOp}
-use Rattle.panel.specs.Run.{actionsOf}
+use Rattle.step.specs.Kind.{operator_of, action_of}
+use Rattle.step.specs.Run.{run_op}
+use Rattle.panel.specs.Run.{actions_of}
 
 -- rows of operators that name steps
 abbrev Naming : Fields → Type 0
@@ -65,31 +65,31 @@ fit-earlier n (three p q r) = record { first = p; second = q; third = r }
 -- what an action that stops says of the places it names
 abbrev pub Names : ℕ → Action → Type 0
 Names k (Input l h) = Unit {0}
-Names k (Does o a b c) = (x y z : ℤ) (r : Refusal) → runOp w64 o x y z ≡ Stops r → Earlier k a b c
+Names k (Does o a b c) = (x y z : ℤ) (r : Refusal) → run_op w64 o x y z ≡ Stops r → Earlier k a b c
 
-step-names : {k : ℕ} {s : Step} → Valid k s → Names k (actionOf s.operator s.a s.b s.c)
-unfolding actionOf runOp
+step-names : {k : ℕ} {s : Step} → Valid k s → Names k (action_of s.operator s.a s.b s.c)
+unfolding action_of run_op
 step-names {k} {s} v = branch (eq_test s.operator (pos 0)) (Names k) constants others
   where
     constants : s.operator ≡ pos 0 → Names k (Does (Constant s.a) 0 0 0)
     constants e x y z r h = let z : ◌≡◌ {A = ℕ} 0 1 = cc in absurd (omega arith)
 
-    operated : s.operator ≢ pos 0 → s.operator ≢ pos 1 → Names k (Does (operatorOf (up s.operator)) (up s.a) (up s.b) (up s.c))
+    operated : s.operator ≢ pos 0 → s.operator ≢ pos 1 → Names k (Does (operator_of (up s.operator)) (up s.a) (up s.b) (up s.c))
     operated p q x y z r h = fit-earlier (names v.number v.known (λ e. p (v.is ∙ ap pos e)) (λ e. q (v.is ∙ ap pos e))) v.fit
 
-    others : s.operator ≢ pos 0 → Names k (pick (s.operator ≟ pos 1) (Input s.a s.b) (Does (operatorOf (up s.operator)) (up s.a) (up s.b) (up s.c)))
+    others : s.operator ≢ pos 0 → Names k (pick (s.operator ≟ pos 1) (Input s.a s.b) (Does (operator_of (up s.operator)) (up s.a) (up s.b) (up s.c)))
     others p = branch (eq_test s.operator (pos 1)) (Names k) (λ e. tt) (operated p)
 
 -- the step behind so many others
-pub names_at : {j : ℕ} (xs : List Step) → ValidFrom j xs → (before : List Action) (s : Action) (after : List Action) → actionsOf xs ≡ before ++ (s ∷ after) → Names (j + length before) s
-unfolding actionsOf
+pub names_at : {j : ℕ} (xs : List Step) → ValidFrom j xs → (before : List Action) (s : Action) (after : List Action) → actions_of xs ≡ before ++ (s ∷ after) → Names (j + length before) s
+unfolding actions_of
 names_at [] ended [] s after e = let z : ◌≡◌ {A = ℕ} 0 1 = cc in absurd (omega arith)
 names_at [] ended (b ∷ before) s after e = let z : ◌≡◌ {A = ℕ} 0 1 = cc in absurd (omega arith)
 names_at {j} (x ∷ xs) (and v vs) [] s after e =
-    let h : actionOf x.operator x.a x.b x.c ≡ s = cc in
+    let h : action_of x.operator x.a x.b x.c ≡ s = cc in
     let z : j + 0 ≡ j = omega arith in
     rw z (rw h at (step-names v))
 names_at {j} (x ∷ xs) (and v vs) (b ∷ before) s after e =
-    let h : actionsOf xs ≡ before ++ (s ∷ after) = cc in
+    let h : actions_of xs ≡ before ++ (s ∷ after) = cc in
     let z : j + 1 + length before ≡ j + suc (length before) = omega arith in
     rw z at (names_at xs vs before s after h)

@@ -26,10 +26,10 @@ use Rattle.step.specs.declared.Operator.{Operator}
 use Rattle.step.specs.declared.Operator.TheVariants.{Constant}
 use Rattle.step.specs.declared.Action.{Action}
 use Rattle.step.specs.declared.Action.TheVariants.{Input, Does}
-use Rattle.step.specs.Kind.{operators, operatorOf, actionOf}
+use Rattle.step.specs.Kind.{operators, operator_of, action_of}
 use Rattle.step.specs.Valid.{ValidOperator}
 use Rattle.step.specs.Stopping.{stopping}
-use Rattle.panel.specs.Run.{actionsOf, takes, in_range, nothingLeft, taken?, suits?}
+use Rattle.panel.specs.Run.{actions_of, takes, in_range, nothing_left, taken?, suits?}
 use Rattle.desk.specs.Promise.{ValidAction, AllValid, none, next, Takes, Suits}
 
 -- ---- the operators by their numbers: the number of a constant alone has to fit
@@ -43,8 +43,8 @@ operator-at [] e n = record { low = omega ints; high = omega ints }
 operator-at (o ∷ os) e zero = e.0
 operator-at (o ∷ os) e (suc n) = operator-at os e.1 n
 
-operator-valid : (n : ℕ) → ValidOperator w64 (operatorOf n)
-unfolding operatorOf
+operator-valid : (n : ℕ) → ValidOperator w64 (operator_of n)
+unfolding operator_of
 operator-valid = operator-at operators (tt, (tt, (tt, (tt, (tt, (tt, (tt, (tt, (tt, (tt, (tt, (tt, (tt, (tt, (tt, (tt, (tt, tt)))))))))))))))))
 
 -- ---- a sheet that was read is one that the panel takes
@@ -55,8 +55,8 @@ constant-fits (constant f) = f
 input-fits : {k : ℕ} {x y z : ℤ} → Fit k InputFields x y z → (SFits w64 x) × (SFits w64 y) × (x ≤ℤ y)
 input-fits (input f g h) = (f, g, h)
 
-step-valid : {k : ℕ} {s : Step} → Valid k s → ValidAction (stopping w64) (actionOf s.operator s.a s.b s.c)
-unfolding actionOf fields_of
+step-valid : {k : ℕ} {s : Step} → Valid k s → ValidAction (stopping w64) (action_of s.operator s.a s.b s.c)
+unfolding action_of fields_of
 step-valid {s} v =
     branch (eq_test s.operator (pos 0)) Fine constants others
   where
@@ -75,14 +75,14 @@ step-valid {s} v =
     inputs : s.operator ≡ pos 1 → Fine (Input s.a s.b)
     inputs e = let z : v.number ≡ 1 = omega (ints, v.is) in ends (input-fits (rw z at v.fit))
 
-    operated : s.operator ≢ pos 1 → Fine (Does (operatorOf (up s.operator)) (up s.a) (up s.b) (up s.c))
+    operated : s.operator ≢ pos 1 → Fine (Does (operator_of (up s.operator)) (up s.a) (up s.b) (up s.c))
     operated n = operator-valid (up s.operator)
 
-    others : s.operator ≢ pos 0 → Fine (pick (s.operator ≟ pos 1) (Input s.a s.b) (Does (operatorOf (up s.operator)) (up s.a) (up s.b) (up s.c)))
+    others : s.operator ≢ pos 0 → Fine (pick (s.operator ≟ pos 1) (Input s.a s.b) (Does (operator_of (up s.operator)) (up s.a) (up s.b) (up s.c)))
     others n = branch (eq_test s.operator (pos 1)) Fine inputs operated
 
-pub all_valid : {k : ℕ} (xs : List Step) → ValidFrom k xs → AllValid (stopping w64) (actionsOf xs)
-unfolding actionsOf
+pub all_valid : {k : ℕ} (xs : List Step) → ValidFrom k xs → AllValid (stopping w64) (actions_of xs)
+unfolding actions_of
 all_valid [] ended = none
 all_valid (x ∷ xs) (and v vs) = next (step-valid v) (all_valid xs vs)
 

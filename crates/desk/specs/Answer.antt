@@ -11,25 +11,25 @@ use Rattle.step.specs.Range.{Answered, shows}
 use Rattle.step.specs.declared.Action.{Action}
 use Rattle.step.specs.declared.Action.TheVariants.{Input, Does}
 use Rattle.step.specs.declared.show.Shown.{Shown}
-use Rattle.step.specs.Show.{showOp, inputShown}
+use Rattle.step.specs.Show.{show_op, input_shown}
 use Rattle.step.specs.Stopping.{stopping}
-use Rattle.desk.specs.Check.{Check, passed, refusedAt, checkSheet}
-use Rattle.desk.specs.Five.{flat, lookedUp}
+use Rattle.desk.specs.Check.{Check, passed, refused_at, check_sheet}
+use Rattle.desk.specs.Five.{flat, looked_up}
 use Rattle.desk.specs.declared.CheckAnswer.{CheckAnswer}
 use Rattle.desk.specs.declared.CheckAnswer.TheVariants.{Passed, RefusedAtStep, RefusedAt, Refused}
 
 -- passed with so many steps; refused at a step, at a byte, or with no place, by a number
 pub data Told : Type 0 where
-  passedWith : ℕ → Told
-  atStep : (step number : ℕ) → Told
+  passed_with : ℕ → Told
+  at_step : (step number : ℕ) → Told
   at_byte : (number place : ℕ) → Told
-  refusedBy : ℕ → Told
+  refused_by : ℕ → Told
 
-abbrev pub checkTold : CheckAnswer → Told
-checkTold (Passed n) = passedWith n
-checkTold (RefusedAtStep r k) = atStep k (number_of r)
-checkTold (RefusedAt r p) = at_byte (number_of r) p
-checkTold (Refused r) = refusedBy (number_of r)
+abbrev pub check_told : CheckAnswer → Told
+check_told (Passed n) = passed_with n
+check_told (RefusedAtStep r k) = at_step k (number_of r)
+check_told (RefusedAt r p) = at_byte (number_of r) p
+check_told (Refused r) = refused_by (number_of r)
 
 pub record Result : Type 0 where
   pub told : Told
@@ -39,28 +39,28 @@ abbrev pub nothing : Told → Result
 nothing t = record { told = t; numbers = [] }
 
 abbrev pub result_of : Check Shown → Result
-result_of (passed vs) = record { told = passedWith (length vs); numbers = flat vs }
-result_of (refusedAt vs r) = record { told = atStep (length vs) (number_of r); numbers = flat vs }
+result_of (passed vs) = record { told = passed_with (length vs); numbers = flat vs }
+result_of (refused_at vs r) = record { told = at_step (length vs) (number_of r); numbers = flat vs }
 
 -- refusals of reading, then 16, then the steps
-unfoldable pub checkedOn : Width → List Step → List ℤ → Result
-checkedOn w steps room = pick (leb (length steps * 5) (length room)) (result_of (checkSheet (stopping w) steps)) (nothing (refusedBy 16))
+unfoldable pub checked_on : Width → List Step → List ℤ → Result
+checked_on w steps room = pick (leb (length steps * 5) (length room)) (result_of (check_sheet (stopping w) steps)) (nothing (refused_by 16))
 
-abbrev pub checkedOf : Width → Got (List Step) → List ℤ → Result
-checkedOf w (got steps p) room = checkedOn w steps room
-checkedOf w (refused n p) room = nothing (at_byte n p)
+abbrev pub checked_of : Width → Got (List Step) → List ℤ → Result
+checked_of w (got steps p) room = checked_on w steps room
+checked_of w (refused n p) room = nothing (at_byte n p)
 
 unfoldable pub checking : Width → List ℕ → List ℤ → Result
-checking w bytes room = checkedOf w (parse bytes) room
+checking w bytes room = checked_of w (parse bytes) room
 
 -- what `check_at` promises of its answer, and of the room after it
 abbrev pub CheckedAt : Width → List ℕ → (room after : List ℤ) → CheckAnswer → Type 0
-CheckedAt w bytes room after r = (checkTold r ≡ (checking w bytes room).told) × (after ≡ sets room 0 (checking w bytes room).numbers)
+CheckedAt w bytes room after r = (check_told r ≡ (checking w bytes room).told) × (after ≡ sets room 0 (checking w bytes room).numbers)
 
 abbrev pub Checked : List ℕ → (room after : List ℤ) → CheckAnswer → Type 0
 Checked = CheckedAt w64
 
 -- what a step shows, its operands looked up among the first k of the room
-unfoldable pub stepIn : Width → List ℤ → ℕ → Action → Answered Shown
-stepIn w l k (Input a b) = shows (inputShown a b)
-stepIn w l k (Does o p q r) = showOp w o (lookedUp l k p) (lookedUp l k q) (lookedUp l k r)
+unfoldable pub step_in : Width → List ℤ → ℕ → Action → Answered Shown
+step_in w l k (Input a b) = shows (input_shown a b)
+step_in w l k (Does o p q r) = show_op w o (looked_up l k p) (looked_up l k q) (looked_up l k r)

@@ -6,32 +6,32 @@ use Rattle.step.specs.Range.{Answered, shows, declines}
 use Rattle.step.specs.declared.Action.{Action}
 use Rattle.step.specs.declared.Action.TheVariants.{Input, Does}
 use Rattle.sheet.specs.Step.{Step}
-use Rattle.panel.specs.Run.{actionsOf}
+use Rattle.panel.specs.Run.{actions_of}
 
 -- what an earlier step showed; past the last stands 0
-abbrev pub shownAt : (P : Panel) → List P.Shown → ℕ → P.Shown
-shownAt P shown k = get_or shown k P.zero
+abbrev pub shown_at : (P : Panel) → List P.Shown → ℕ → P.Shown
+shown_at P shown k = get_or shown k P.zero
 
 -- what the steps show, all of them or those before the one that is refused
 pub data Check (S : Type 0) : Type 0 where
   passed : List S → Check S
-  refusedAt : List S → Refusal → Check S
+  refused_at : List S → Refusal → Check S
 
-abbrev pub shownBy : {S : Type 0} → Check S → List S
-shownBy (passed vs) = vs
-shownBy (refusedAt vs r) = vs
+abbrev pub shown_by : {S : Type 0} → Check S → List S
+shown_by (passed vs) = vs
+shown_by (refused_at vs r) = vs
 
-unfoldable pub checkStep : (P : Panel) → List P.Shown → Action → Answered P.Shown
-checkStep P shown (Input l h) = shows (P.ofInput l h)
-checkStep P shown (Does o p q r) = P.show o (shownAt P shown p) (shownAt P shown q) (shownAt P shown r)
+unfoldable pub check_step : (P : Panel) → List P.Shown → Action → Answered P.Shown
+check_step P shown (Input l h) = shows (P.of_input l h)
+check_step P shown (Does o p q r) = P.show o (shown_at P shown p) (shown_at P shown q) (shown_at P shown r)
 
-abbrev pub checkOn : {S : Type 0} → List S → Answered S → (S → Check S) → Check S
-checkOn shown (shows v) go = go v
-checkOn shown (declines r) go = refusedAt shown r
+abbrev pub check_on : {S : Type 0} → List S → Answered S → (S → Check S) → Check S
+check_on shown (shows v) go = go v
+check_on shown (declines r) go = refused_at shown r
 
-unfoldable pub checkFrom : (P : Panel) → List P.Shown → List Action → Check P.Shown
-checkFrom P shown [] = passed shown
-checkFrom P shown (s ∷ ss) = checkOn shown (checkStep P shown s) (λ v. checkFrom P (shown ++ (v ∷ [])) ss)
+unfoldable pub check_from : (P : Panel) → List P.Shown → List Action → Check P.Shown
+check_from P shown [] = passed shown
+check_from P shown (s ∷ ss) = check_on shown (check_step P shown s) (λ v. check_from P (shown ++ (v ∷ [])) ss)
 
-abbrev pub checkSheet : (P : Panel) → List Step → Check P.Shown
-checkSheet P steps = checkFrom P [] (actionsOf steps)
+abbrev pub check_sheet : (P : Panel) → List Step → Check P.Shown
+check_sheet P steps = check_from P [] (actions_of steps)

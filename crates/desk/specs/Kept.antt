@@ -7,11 +7,11 @@ use Rattle.sheet.specs.Step.{Step}
 use Rattle.sheet.specs.Sheet.{parse}
 use Rattle.step.specs.declared.show.Shown.{Shown}
 use Rattle.step.specs.Stopping.{InShown, stopping}
-use Rattle.panel.specs.Run.{actionsOf}
+use Rattle.panel.specs.Run.{actions_of}
 use Rattle.panel.specs.declared.RunAnswer.{RunAnswer}
 use Rattle.panel.specs.declared.RunAnswer.TheVariants.{Ended}
-use Rattle.desk.specs.Check.{checkFrom}
-use Rattle.desk.specs.Five.{flat, shownIn}
+use Rattle.desk.specs.Check.{check_from}
+use Rattle.desk.specs.Five.{flat, shown_in}
 use Rattle.desk.specs.Promise.{AllValid, Suits, StopsAfter}
 
 -- the inputs are as many as the sheet's, each in its range
@@ -19,12 +19,12 @@ pub record InRanges (bytes : List ℕ) (ins : List ℤ) : Type 0 where
   pub steps : List Step
   pub end : ℕ
   pub read : parse bytes ≡ got steps end
-  pub suits : Suits (actionsOf steps) ins
+  pub suits : Suits (actions_of steps) ins
 
 -- the run reaches the last of n steps, and each step's number lies in the range, the spacing and the sign that stand in the check's room
 pub record Reaches (n : ℕ) (shown numbers : List ℤ) (r : RunAnswer) : Type 0 where
   pub ends : r ≡ Ended n
-  pub lies : (k : ℕ) → k < n → InShown (shownIn shown k) (get_or numbers k (pos 0))
+  pub lies : (k : ℕ) → k < n → InShown (shown_in shown k) (get_or numbers k (pos 0))
 
 -- the k steps before one pass, with what stands in the check's room, and numbers drawn from the ranges shown of its operands stop that one by r
 pub record StopsThereAt (w : Width) (bytes : List ℕ) (shown : List ℤ) (r : Refusal) (k : ℕ) : Type 0 where
@@ -33,7 +33,7 @@ pub record StopsThereAt (w : Width) (bytes : List ℕ) (shown : List ℤ) (r : R
   pub read : parse bytes ≡ got steps end
   pub earlier : List Shown
   pub in-room : take (k * 5) shown ≡ flat earlier
-  pub stops : StopsAfter (stopping w) (checkFrom (stopping w) []) (actionsOf steps) earlier r
+  pub stops : StopsAfter (stopping w) (check_from (stopping w) []) (actions_of steps) earlier r
   pub place : length stops.before ≡ k
 
 abbrev pub StopsThere : List ℕ → List ℤ → Refusal → ℕ → Type 0
@@ -41,4 +41,4 @@ StopsThere = StopsThereAt w64
 
 -- what is read of the bytes are steps of the width: constants and ends of ranges fit it
 abbrev pub Within : Width → List ℕ → Type 0
-Within w bytes = (steps : List Step) (end : ℕ) → parse bytes ≡ got steps end → AllValid (stopping w) (actionsOf steps)
+Within w bytes = (steps : List Step) (end : ℕ) → parse bytes ≡ got steps end → AllValid (stopping w) (actions_of steps)

@@ -9,8 +9,8 @@ use Rattle.sheet.specs.Sheet.{parse}
 use Rattle.step.specs.declared.Operator.{Operator}
 use Rattle.step.specs.declared.Action.TheVariants.{Input, Does}
 use Rattle.step.specs.declared.Outcome.TheVariants.{Stops}
-use Rattle.step.specs.Run.{runOp}
-use Rattle.panel.specs.Run.{actionsOf}
+use Rattle.step.specs.Run.{run_op}
+use Rattle.panel.specs.Run.{actions_of}
 
 -- the number at place i of a room
 abbrev pub entry : List ℤ → ℕ → ℤ
@@ -46,7 +46,7 @@ pub record Stopping (bytes : List ℕ) (shown : List ℤ) (r : Refusal) (k : ℕ
   pub a : ℕ
   pub b : ℕ
   pub c : ℕ
-  pub is : get_or (actionsOf steps) k (Input (pos 0) (pos 0)) ≡ Does operator a b c
+  pub is : get_or (actions_of steps) k (Input (pos 0) (pos 0)) ≡ Does operator a b c
   pub a-earlier : a < k
   pub b-earlier : b < k
   pub c-earlier : c < k
@@ -56,4 +56,4 @@ pub record Stopping (bytes : List ℕ) (shown : List ℤ) (r : Refusal) (k : ℕ
   pub x-in : Between shown a x
   pub y-in : Between shown b y
   pub z-in : Between shown c z
-  pub stops : runOp w64 operator x y z ≡ Stops r
+  pub stops : run_op w64 operator x y z ≡ Stops r

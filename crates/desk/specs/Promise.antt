@@ -6,7 +6,7 @@ use Rattle.step.specs.declared.Operator.{Operator}
 use Rattle.step.specs.declared.Action.{Action}
 use Rattle.step.specs.declared.Action.TheVariants.{Input, Does}
 use Rattle.panel.specs.Run.{takes, Run, ended}
-use Rattle.desk.specs.Check.{shownAt, Check, passed}
+use Rattle.desk.specs.Check.{shown_at, Check, passed}
 
 -- an operator or an input that the panel takes
 abbrev pub ValidAction : Panel → Action → Type 0
@@ -46,7 +46,7 @@ pub record Ends (P : Panel) (run : Run) (vs : List P.Shown) : Type 0 where
 
 -- numbers, each drawn from what is shown of its operand, on which the step stops by r
 pub data StepStops (P : Panel) (vs : List P.Shown) (r : Refusal) : Action → Type 0 where
-  stopping : {o : Operator} {a b c : ℕ} → Stopped P o (shownAt P vs a) (shownAt P vs b) (shownAt P vs c) r → StepStops P vs r (Does o a b c)
+  stopping : {o : Operator} {a b c : ℕ} → Stopped P o (shown_at P vs a) (shown_at P vs b) (shown_at P vs c) r → StepStops P vs r (Does o a b c)
 
 -- the steps before one pass, with vs shown, and that one stops by r
 pub record StopsAfter (P : Panel) (check : List Action → Check P.Shown) (steps : List Action) (vs : List P.Shown) (r : Refusal) : Type 0 where

@@ -4,12 +4,12 @@ ghost use Rattle.sign.specs.Index.{index_of};
 ghost use Rattle.std.proofs.lemmas.List.Edits.{sets};
 ghost use Rattle.whole.specs.Sized.{width_of};
 ghost use Rattle.sheet.specs.Sheet.{steps_of};
-ghost use Rattle.panel.specs.Run.{actionAt};
-ghost use Rattle.step.specs.Show.{shownTold};
+ghost use Rattle.panel.specs.Run.{action_at};
+ghost use Rattle.step.specs.Show.{shown_told};
 ghost use Rattle.step.specs.Stopping.{stopping};
-ghost use Rattle.desk.specs.Check.{checkSheet};
-ghost use Rattle.desk.specs.Five.{fiveOf, signAt, lookedUp};
-ghost use Rattle.desk.specs.Answer.{checkTold, checkedOn, result_of, stepIn, Result, CheckedAt, Checked};
+ghost use Rattle.desk.specs.Check.{check_sheet};
+ghost use Rattle.desk.specs.Five.{five_of, sign_at, looked_up};
+ghost use Rattle.desk.specs.Answer.{check_told, checked_on, result_of, step_in, Result, CheckedAt, Checked};
 
 use congruence::Congruence;
 use interval::Interval;
@@ -47,7 +47,7 @@ const SIGNS: [Sign; 8] = [
 
 // The sign of a number; Top for one that is none.
 fn sign_at(n: u64) -> Sign
-    ensures { result ≡ signAt n }
+    ensures { result ≡ sign_at n }
 {
     if n < 8 {
         let i = n as usize;
@@ -60,7 +60,7 @@ fn sign_at(n: u64) -> Sign
 // What step p showed, of the first k in the room; 0 past them.
 fn looked_up(room: &[i64], k: usize, p: usize) -> Shown
     requires { k * 5 ≤ length room.now }
-    ensures { result ≡ lookedUp room.now k p }
+    ensures { result ≡ looked_up room.now k p }
 {
     if k <= p {
         return Shown {
@@ -89,7 +89,7 @@ fn looked_up(room: &[i64], k: usize, p: usize) -> Shown
 
 // What step p shows in a room that a check has filled; 0 past the last place.
 pub fn shown_at(room: &[i64], p: usize) -> Shown
-    ensures { result ≡ lookedUp room.now (length room.now / 5) p }
+    ensures { result ≡ looked_up room.now (length room.now / 5) p }
 {
     looked_up(room, room.len() / 5, p)
 }
@@ -97,7 +97,7 @@ pub fn shown_at(room: &[i64], p: usize) -> Shown
 // What a step shows after k steps, or its refusal.
 fn shown_of(size: Size, act: Action, room: &[i64], k: usize) -> ShownAnswer
     requires { (k ≤ 256) × (k * 5 ≤ length room.now) }
-    ensures { shownTold result ≡ stepIn (width_of size) room.now k act }
+    ensures { shown_told result ≡ step_in (width_of size) room.now k act }
 {
     match act {
         Action::Input(l, h) => ShownAnswer::Shows(step::show::input(l, h)),
@@ -134,7 +134,7 @@ fn put_five(room: &mut [i64], k: usize, low: i64, high: i64, constant: i64, modu
 // Puts what step k shows into the room.
 fn put(room: &mut [i64], k: usize, v: Shown)
     requires { (k < 256) × (k * 5 + 5 ≤ length room.old) }
-    ensures { room.new ≡ sets room.old (k * 5) (fiveOf v) }
+    ensures { room.new ≡ sets room.old (k * 5) (five_of v) }
 {
     let range = v.range();
     let spacing = v.spacing();
@@ -153,7 +153,7 @@ fn put(room: &mut [i64], k: usize, v: Shown)
 // The step at place k.
 fn action_at(steps: &[i64], n: usize, k: usize) -> Action
     requires { (n ≤ 256) × (length steps.now ≡ n * 4) × (k < n) }
-    ensures { result ≡ actionAt steps.now k }
+    ensures { result ≡ action_at steps.now k }
 {
     let i = k * 4;
     step::kind::action_of(steps[i], steps[i + 1], steps[i + 2], steps[i + 3])
@@ -162,7 +162,7 @@ fn action_at(steps: &[i64], n: usize, k: usize) -> Action
 // Checks n steps, and puts what they show into the room.
 fn check_steps(size: Size, steps: &[i64], n: usize, room: &mut [i64]) -> CheckAnswer
     requires { (n ≤ 256) × (length steps.now ≡ n * 4) × (n * 5 ≤ length room.old) }
-    ensures { (checkTold result ≡ (result_of (checkSheet (stopping (width_of size)) (steps_of steps.now))).told) × (room.new ≡ sets room.old 0 (result_of (checkSheet (stopping (width_of size)) (steps_of steps.now))).numbers) }
+    ensures { (check_told result ≡ (result_of (check_sheet (stopping (width_of size)) (steps_of steps.now))).told) × (room.new ≡ sets room.old 0 (result_of (check_sheet (stopping (width_of size)) (steps_of steps.now))).numbers) }
 {
     let mut k: usize = 0;
     while k < n {
@@ -183,7 +183,7 @@ fn check_steps(size: Size, steps: &[i64], n: usize, room: &mut [i64]) -> CheckAn
 // Checks n steps that were read: 16, then the steps.
 fn check_listed(size: Size, steps: &[i64], n: usize, room: &mut [i64]) -> CheckAnswer
     requires { (n ≤ 256) × (length steps.now ≡ n * 4) }
-    ensures { (checkTold result ≡ (checkedOn (width_of size) (steps_of steps.now) room.old).told) × (room.new ≡ sets room.old 0 (checkedOn (width_of size) (steps_of steps.now) room.old).numbers) }
+    ensures { (check_told result ≡ (checked_on (width_of size) (steps_of steps.now) room.old).told) × (room.new ≡ sets room.old 0 (checked_on (width_of size) (steps_of steps.now) room.old).numbers) }
 {
     if room.len() < n * 5 {
         return CheckAnswer::Refused(Refusal::NoRoom);

@@ -14,7 +14,7 @@ use Rattle.refusal.specs.Answer.{Answer}
 use Rattle.refusal.specs.Answer as answers
 use Rattle.congruence.specs.declared.Congruence.{Congruence}
 use Rattle.congruence.specs.Set.{cong}
-use Rattle.export.specs.Call.{Result, refusedBy, put, range, spacing, Leaves}
+use Rattle.export.specs.Call.{Result, refused_by, put, range, spacing, Leaves}
 
 -- ---- numbers that are put
 module _ (ns room : List ℤ) where
@@ -22,7 +22,7 @@ module _ (ns room : List ℤ) where
   unfolding put
   put_all h = rw (le-leb (length ns) (length room) h) refl
 
-  put-short : length room < length ns → put ns room ≡ refusedBy 16 room
+  put-short : length room < length ns → put ns room ≡ refused_by 16 room
   unfolding put
   put-short h = rw (lt-leb (length ns) (length room) h) refl
 

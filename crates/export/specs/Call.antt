@@ -15,27 +15,27 @@ pub record Result : Type 0 where
   pub status : ℕ
   pub numbers : List ℤ
 
-abbrev pub refusedBy : ℕ → List ℤ → Result
-refusedBy n room = record { status = n; numbers = [] }
+abbrev pub refused_by : ℕ → List ℤ → Result
+refused_by n room = record { status = n; numbers = [] }
 
 -- the numbers, if the room has places for them
 unfoldable pub put : List ℤ → List ℤ → Result
-put ns room = pick (leb (length ns) (length room)) (record { status = 0; numbers = ns }) (refusedBy 16 room)
+put ns room = pick (leb (length ns) (length room)) (record { status = 0; numbers = ns }) (refused_by 16 room)
 
 -- a number
 abbrev pub number : Exact → List ℤ → Result
 number (exact.Is n) = put (n ∷ [])
-number exact.DoesNotFit = refusedBy 2
+number exact.DoesNotFit = refused_by 2
 
 -- an interval: least, greatest
 abbrev pub range : Answer Interval → List ℤ → Result
 range (is v) = put (v.min ∷ v.max ∷ [])
-range (refused n) = refusedBy n
+range (refused n) = refused_by n
 
 -- a congruence: constant, modulus
 abbrev pub spacing : answers.Answer Congruence → List ℤ → Result
 spacing (answers.is v) = put (v.constant ∷ v.modulus ∷ [])
-spacing (answers.refused n) = refusedBy n
+spacing (answers.refused n) = refused_by n
 
 -- a call with this room gives this status and leaves the room so; what is behind the numbers is kept
 pub record Leaves (answer : List ℤ → Result) (room : List ℤ) (status : ℕ) (left : List ℤ) : Type 0 where

@@ -13,23 +13,23 @@ pub record Seen : Type 0 where
 abbrev seen : ℕ → (ℕ → ℕ) → List ℤ → Seen
 seen status place numbers = record { status = status; place = place; numbers = numbers }
 
-abbrev pub checkedAs : desk.Told → List ℤ → Seen
-checkedAs (desk.passedWith n) = seen 0 (λ kept. n)
-checkedAs (desk.atStep k r) = seen r (λ kept. k)
-checkedAs (desk.at_byte r p) = seen r (λ kept. p)
-checkedAs (desk.refusedBy r) = seen r (λ kept. kept)
+abbrev pub checked_as : desk.Told → List ℤ → Seen
+checked_as (desk.passed_with n) = seen 0 (λ kept. n)
+checked_as (desk.at_step k r) = seen r (λ kept. k)
+checked_as (desk.at_byte r p) = seen r (λ kept. p)
+checked_as (desk.refused_by r) = seen r (λ kept. kept)
 
 abbrev pub checked : desk.Result → Seen
-checked r = checkedAs r.told r.numbers
+checked r = checked_as r.told r.numbers
 
-abbrev pub ranAs : panel.Told → List ℤ → Seen
-ranAs (panel.endedWith n) = seen 0 (λ kept. n)
-ranAs (panel.stopped k r) = seen r (λ kept. k)
-ranAs (panel.refusedAt r p) = seen r (λ kept. p)
-ranAs (panel.refusedBy r) = seen r (λ kept. kept)
+abbrev pub ran_as : panel.Told → List ℤ → Seen
+ran_as (panel.ended_with n) = seen 0 (λ kept. n)
+ran_as (panel.stopped k r) = seen r (λ kept. k)
+ran_as (panel.refused_at r p) = seen r (λ kept. p)
+ran_as (panel.refused_by r) = seen r (λ kept. kept)
 
 abbrev pub ran : panel.Result → Seen
-ran r = ranAs r.told r.numbers
+ran r = ran_as r.told r.numbers
 
 -- a call with this room and place gives this status and leaves both so; what is behind the numbers is kept
 pub record Told (s : Seen) (room : List ℤ) (place : ℕ) (status : ℕ) (left : List ℤ) (end : ℕ) : Type 0 where

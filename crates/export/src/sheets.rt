@@ -1,7 +1,7 @@
 // The check and the run of a sheet's bytes. Beside the status stands a place: how many steps passed or ended, the step that
 // was refused or stopped, or the byte at fault; where there is none (15, 16) it is kept.
 ghost use Rattle.std.specs.Int.{w64};
-ghost use Rattle.step.specs.Run.{runOp};
+ghost use Rattle.step.specs.Run.{run_op};
 ghost use Rattle.panel.specs.Answer.{running};
 ghost use Rattle.desk.specs.Answer.{checking};
 ghost use Rattle.export.specs.Sheets.{Told, checked, ran};
@@ -39,7 +39,7 @@ pub extern "C" fn tunisaypa_run(
     room: &mut [i64],
     place: &mut usize,
 ) -> u8
-    ensures { Told (ran (running (runOp w64) bytes.now inputs.now room.old)) room.old place.old result room.new place.new }
+    ensures { Told (ran (running (run_op w64) bytes.now inputs.now room.old)) room.old place.old result room.new place.new }
 {
     match panel::run(bytes, inputs, room) {
         RunAnswer::Ended(count) => {

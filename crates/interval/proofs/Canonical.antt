@@ -10,7 +10,7 @@ use Rattle.whole.specs.Range.{least, greatest}
 use Rattle.whole.proofs.Linear.{ints}
 use Rattle.whole.proofs.Fits.{fits, low, high}
 use Rattle.whole.proofs.Decides.{Decides, both, branch, lt_test, eq_test, fits-test, is-fit, is_true, is_false, yes}
-use Rattle.interval.specs.Set.{Interval, ◌∈◌, bottom, isBottom, empty?, canonical?, Proper, Canonical, some, none}
+use Rattle.interval.specs.Set.{Interval, ◌∈◌, bottom, is_bottom, empty?, canonical?, Proper, Canonical, some, none}
 use Rattle.interval.proofs.Calls.{made}
 use Rattle.interval.proofs.Rem.{signs}
 
@@ -25,7 +25,7 @@ module _ (w : Width) where
   abbrev pub NotBottom : Interval → Type 0
   NotBottom i = (i.min ≢ greatest w) ⊎ (i.max ≢ least w)
 
-  pub bottom-test : (i : Interval) → Decides (IsBottom i) (NotBottom i) (isBottom w i)
+  pub bottom-test : (i : Interval) → Decides (IsBottom i) (NotBottom i) (is_bottom w i)
   bottom-test i = both (eq_test i.min (greatest w)) (eq_test i.max (least w))
 
   pub unlike : {A : Type 0} → NotBottom (bottom w) → A
@@ -44,7 +44,7 @@ module _ (w : Width) where
   pub bottom-is : empty? (bottom w) ≡ true
   bottom-is = is_true (lt_test (least w) (greatest w)) (λ h. omega (ints, signs w))
 
-  pub bottom-found : isBottom w (bottom w) ≡ true
+  pub bottom-found : is_bottom w (bottom w) ≡ true
   bottom-found = is_true (bottom-test w (bottom w)) (unlike w)
 
   at-bottom : {i : Interval} → IsBottom w i → Canonical w i
@@ -70,7 +70,7 @@ has-number (some p) f = p
 has-number {w} none f = unlike w f
 
 -- what has a number is not bottom
-pub not-bottom : {w : Width} {i : Interval} → Proper w i → isBottom w i ≡ false
+pub not-bottom : {w : Width} {i : Interval} → Proper w i → is_bottom w i ≡ false
 not-bottom {w} {i} p = is_false (bottom-test w i) (λ e. absurd (omega (ints, signs w)))
 
 -- both its ends are numbers of the width

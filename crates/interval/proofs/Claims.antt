@@ -13,9 +13,9 @@ use Rattle.interval.specs.declared.IntervalAnswer.{IntervalAnswer}
 use Rattle.interval.specs.declared.IntervalAnswer.TheVariants.{Is, Refused}
 use Rattle.interval.specs.declared.PairAnswer.{PairAnswer}
 use Rattle.interval.specs.declared.PairAnswer.TheVariants as pair
-use Rattle.interval.specs.Answer.{told, pairTold}
+use Rattle.interval.specs.Answer.{told, pair_told}
 use Rattle.interval.specs.Set.{Interval, ◌∈◌, ◌∉◌, top, bottom, Proper, Canonical, none}
-use Rattle.interval.specs.Mended.{ranged, neg, add, sub, mul, div, rem, lessV, lessOrEqualV, equalsV, equals, less, greater, lessOrEqual, greaterOrEqual, magnitude, narrowed, filled, narrow, join}
+use Rattle.interval.specs.Mended.{ranged, neg, add, sub, mul, div, rem, less_v, less_or_equal_v, equals_v, equals, less, greater, less_or_equal, greater_or_equal, magnitude, narrowed, filled, narrow, join}
 use Rattle.interval.specs.Promise.{Operation, Arithmetic, Arithmetic₁, Exact, fitting, too_wide, Beyond, Quotients, Magnitude, Remainders, Comparison, Narrowing}
 use Rattle.interval.proofs.Ends.{add-least, sub-least, mul-least, neg-least}
 use Rattle.interval.proofs.Truth as T
@@ -34,7 +34,7 @@ answer-fixed (Is u) (Refused r) e = let z : ◌≡◌ {A = ℕ} 0 1 = cc in absu
 answer-fixed (Refused q) (Is v) e = let z : ◌≡◌ {A = ℕ} 0 1 = cc in absurd (omega ints)
 answer-fixed (Refused q) (Refused r) e = ap Refused (number-tells q r cc)
 
-pub pair-fixed : (r s : PairAnswer) → pairTold r ≡ pairTold s → r ≡ s
+pub pair-fixed : (r s : PairAnswer) → pair_told r ≡ pair_told s → r ≡ s
 pair-fixed (pair.Is u) (pair.Is v) e = cc
 pair-fixed (pair.Is u) (pair.Refused r) e = let z : ◌≡◌ {A = ℕ} 0 1 = cc in absurd (omega ints)
 pair-fixed (pair.Refused q) (pair.Is v) e = let z : ◌≡◌ {A = ℕ} 0 1 = cc in absurd (omega ints)
@@ -97,23 +97,23 @@ magnitude-one q = (magnitude-found q.ordered, magnitude-only q.ordered)
 -- ---- the comparisons: true if they hold for every pair, false if for none, else both
 pub equals-exact : (w : Width) → Comparison w ◌≡◌ ◌≢◌ (equals w)
 unfolding equals
-equals-exact w = comparison w equalsV (λ a b p q. T.equals-exact p.ordered q.ordered)
+equals-exact w = comparison w equals_v (λ a b p q. T.equals-exact p.ordered q.ordered)
 
 pub less-exact : (w : Width) → Comparison w ◌<ℤ◌ (λ x y. y ≤ℤ x) (less w)
 unfolding less
-less-exact w = comparison w lessV (λ a b p q. T.less-exact p.ordered q.ordered)
+less-exact w = comparison w less_v (λ a b p q. T.less-exact p.ordered q.ordered)
 
-pub less-or-equal-exact : (w : Width) → Comparison w ◌≤ℤ◌ (λ x y. y <ℤ x) (lessOrEqual w)
-unfolding lessOrEqual
-less-or-equal-exact w = comparison w lessOrEqualV (λ a b p q. T.less-or-equal-exact p.ordered q.ordered)
+pub less-or-equal-exact : (w : Width) → Comparison w ◌≤ℤ◌ (λ x y. y <ℤ x) (less_or_equal w)
+unfolding less_or_equal
+less-or-equal-exact w = comparison w less_or_equal_v (λ a b p q. T.less-or-equal-exact p.ordered q.ordered)
 
 pub greater-exact : (w : Width) → Comparison w (λ x y. y <ℤ x) (λ x y. x ≤ℤ y) (greater w)
 unfolding greater
 greater-exact w = exchanged (less w) (less-exact w)
 
-pub greater-or-equal-exact : (w : Width) → Comparison w (λ x y. y ≤ℤ x) (λ x y. x <ℤ y) (greaterOrEqual w)
-unfolding greaterOrEqual
-greater-or-equal-exact w = exchanged (lessOrEqual w) (less-or-equal-exact w)
+pub greater-or-equal-exact : (w : Width) → Comparison w (λ x y. y ≤ℤ x) (λ x y. x <ℤ y) (greater_or_equal w)
+unfolding greater_or_equal
+greater-or-equal-exact w = exchanged (less_or_equal w) (less-or-equal-exact w)
 
 -- ---- narrow: as ported, made bottom if empty; if new is inside previous, the answer lies between them
 pub narrow-rule : (w : Width) → Narrowing w (narrow w)

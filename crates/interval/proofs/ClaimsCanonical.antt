@@ -12,9 +12,9 @@ use Rattle.whole.proofs.Linear.{ints}
 use Rattle.whole.proofs.Fits.{fits, low, high}
 use Rattle.whole.proofs.Divide.{fits-rem}
 use Rattle.whole.proofs.Decides.{branch, both, either, eq_test, is-fit}
-use Rattle.interval.specs.Set.{Interval, ◌⋯◌, top, bottom, empty?, isBottom, inWidth?, canonical?, Proper, Canonical, some, none}
+use Rattle.interval.specs.Set.{Interval, ◌⋯◌, top, bottom, empty?, is_bottom, in_width?, canonical?, Proper, Canonical, some, none}
 use Rattle.refusal.specs.Answer.{Answer, is, refused}
-use Rattle.interval.specs.Mended.{neg, add, sub, mul, div, rem, remSingle, equals, less, greater, lessOrEqual, greaterOrEqual, narrowed, filled, narrow}
+use Rattle.interval.specs.Mended.{neg, add, sub, mul, div, rem, rem_single, equals, less, greater, less_or_equal, greater_or_equal, narrowed, filled, narrow}
 use Rattle.interval.specs.Promise.{Operation, Arithmetic, Exact, fitting, too_wide, Comparison, Verdict, Judged, judged, always, never, sometimes, Well, shown, refusing}
 use Rattle.interval.proofs.Test.{in-test, only-test}
 use Rattle.interval.proofs.Rem.{proper, signs, one-fits, rem-proper}
@@ -30,11 +30,11 @@ pub canonical-test : (w : Width) (i : Interval) → (canonical? w i ≡ true) �
 canonical-test w i = (is-canonical w i, canonical-is)
 
 -- every pair of 64-bit numbers has its ends in the width: there it is min at most max, or bottom
-pub canonical-64 : {i : Interval} → SFits w64 i.min → SFits w64 i.max → canonical? w64 i ≡ (not (empty? i) || isBottom w64 i)
+pub canonical-64 : {i : Interval} → SFits w64 i.min → SFits w64 i.max → canonical? w64 i ≡ (not (empty? i) || is_bottom w64 i)
 unfolding canonical?
 canonical-64 {i} f g = go (empty? i)
   where
-    go : (p : Bool) → pick p (isBottom w64 i) (inWidth? w64 i) ≡ (not p || isBottom w64 i)
+    go : (p : Bool) → pick p (is_bottom w64 i) (in_width? w64 i) ≡ (not p || is_bottom w64 i)
     go true = refl
     go false = rw (is-fit f, is-fit g)
 
@@ -82,7 +82,7 @@ module _ {w : Width} {a b : Interval} (c : Canonical w a) (d : Canonical w b) wh
       branch (both (eq_test a.min a.max) (eq_test b.min b.max)) (Well w) (λ _. alone p) λ _.
       shown (some (rem-proper a q nz)))
     where
-      alone : Proper w a → Well w (remSingle w a.min b.min)
+      alone : Proper w a → Well w (rem_single w a.min b.min)
       alone p =
           let f = fits-rem {w = w} b.min (fits w a.min p.above (omega ints)) in
           branch (in-test _ (top w)) (Well w) (λ _. shown (some (proper (≤ℤ_refl (rem_z a.min b.min)) (low w _ f) (high w _ f)))) (λ _. refusing)
@@ -115,10 +115,10 @@ module _ {w : Width} {a b : Interval} (c : Canonical w a) (d : Canonical w b) wh
   pub greater-canonical : Well w (greater w a b)
   greater-canonical = compared-well (greater-exact w) c d
 
-  pub less-or-equal-canonical : Well w (lessOrEqual w a b)
+  pub less-or-equal-canonical : Well w (less_or_equal w a b)
   less-or-equal-canonical = compared-well (less-or-equal-exact w) c d
 
-  pub greater-or-equal-canonical : Well w (greaterOrEqual w a b)
+  pub greater-or-equal-canonical : Well w (greater_or_equal w a b)
   greater-or-equal-canonical = compared-well (greater-or-equal-exact w) c d
 
 -- ---- narrowing

@@ -18,7 +18,7 @@ use Rattle.interval.specs.declared.Single.TheVariants.{One}
 use Rattle.refusal.specs.Answer.{Answer, is, refused}
 use Rattle.interval.specs.Mended.{filled}
 use Rattle.interval.specs.PortedPromise.{Partner, Sides, Answered, answers, refuses}
-use Rattle.interval.specs.Ported.{mayEqualWhen, meet, apart, pair, lessLeft, lessRight, maybeLessWhen, leLeft, leRight, maybeLeWhen, singleton, sameOne, weakCmp, leBy, geBy}
+use Rattle.interval.specs.Ported.{may_equal_when, meet, apart, pair, less_left, less_right, maybe_less_when, le_left, le_right, maybe_le_when, singleton, same_one, weak_cmp, le_by, ge_by}
 use Rattle.interval.proofs.Ends.{low-in, high-in}
 use Rattle.interval.proofs.Canonical.{IsBottom, NotBottom, bottom-test, nothing, has-number, not-bottom}
 use Rattle.interval.proofs.Fill.{into, out_of}
@@ -29,8 +29,8 @@ empty : {i : Interval} {x : ℤ} → IsBottom w64 i → x ∈ i → ⊥
 empty {x} e h = nothing w64 {x = x} (record { low = omega ints; high = omega ints })
 
 -- ---- may_equal_when: the numbers of both
-pub may-equal-exact : (a b : Interval) (x : ℤ) → (x ∈ mayEqualWhen a b) ↔ ((x ∈ a) × (x ∈ b))
-unfolding mayEqualWhen meet
+pub may-equal-exact : (a b : Interval) (x : ℤ) → (x ∈ may_equal_when a b) ↔ ((x ∈ a) × (x ∈ b))
+unfolding may_equal_when meet
 may-equal-exact a b x = branch (either (bottom-test w64 a) (bottom-test w64 b)) (λ v. (x ∈ v) ↔ ((x ∈ a) × (x ∈ b))) (λ e. (λ h. absurd (nothing w64 h), λ h. absurd (no e h))) (λ _. meet-exact a b x)
   where
     no : IsBottom w64 a ⊎ IsBottom w64 b → (x ∈ a) × (x ∈ b) → ⊥
@@ -58,8 +58,8 @@ parted (inr e) h k l = omega ints
 side : {i : Interval} {P : Type 0} (v : Interval) (x : ℤ) → (x ∈ v → (x ∈ i) × P) → ((x ∈ i) × P → x ∈ v) → (x ∈ filled w64 v) ↔ ((x ∈ i) × P)
 side v x f g = (λ h. f (out_of w64 v x h), λ h. into w64 v x (g h))
 
-pub le-when-exact : {a b : Interval} → Canonical w64 a → Canonical w64 b → Sides ◌≤ℤ◌ a b (maybeLeWhen a b)
-unfolding maybeLeWhen leLeft leRight
+pub le-when-exact : {a b : Interval} → Canonical w64 a → Canonical w64 b → Sides ◌≤ℤ◌ a b (maybe_le_when a b)
+unfolding maybe_le_when le_left le_right
 le-when-exact {a} {b} c d =
     branch (apart-test a b) (Sides ◌≤ℤ◌ a b) (λ e. none-there ◌≤ℤ◌ a b (λ x y h k l. parted e h k l)) λ n.
     let p = has-number c n.0.0 in
@@ -71,8 +71,8 @@ le-when-exact {a} {b} c d =
       right_is = λ y. side _ y (λ h. (record { low = omega ints; high = omega ints }, record { number = a.min; number_in = low-in p.ordered; at = omega ints })) (λ h. let x = h.1.number_in in let r = h.1.at in let m = h.0 in record { low = omega ints; high = omega ints });
     }
 
-pub less-when-exact : {a b : Interval} → Canonical w64 a → Canonical w64 b → Answered ◌<ℤ◌ a b (maybeLessWhen a b)
-unfolding maybeLessWhen lessLeft lessRight
+pub less-when-exact : {a b : Interval} → Canonical w64 a → Canonical w64 b → Answered ◌<ℤ◌ a b (maybe_less_when a b)
+unfolding maybe_less_when less_left less_right
 less-when-exact {a} {b} c d =
     branch (apart-test a b) A (λ e. answers (none-there ◌<ℤ◌ a b (λ x y h k l. parted e h k (omega ints)))) λ n.
     branch (eq_test b.max (least w64)) A (λ e. refuses (inl e)) λ _.
@@ -95,8 +95,8 @@ less-when-exact {a} {b} c d =
 -- ---- error 4: the weak order never answers Equal, so that <= and >= of ranges that touch are false
 module _ (a b : Interval) where
   -- two single numbers that are equal come before as Less
-  pub weak-never-equal : weakCmp a b ≡ Equal → ⊥
-  unfolding weakCmp sameOne singleton
+  pub weak-never-equal : weak_cmp a b ≡ Equal → ⊥
+  unfolding weak_cmp same_one singleton
   weak-never-equal =
       branch (either (bottom-test w64 a) (bottom-test w64 b)) N (λ _ e. no_none e) λ _.
       branch (le_test a.max b.min) N (λ _ e. no_less e) λ l.
@@ -115,18 +115,18 @@ module _ (a b : Interval) where
       no-greater : Greater ≡ Equal → ⊥
       no-greater e = let z : ◌≡◌ {A = ℕ} 0 1 = cc in omega ints
 
-      not_same : b.min <ℤ a.max → N (sameOne (singleton a) (singleton b))
+      not_same : b.min <ℤ a.max → N (same_one (singleton a) (singleton b))
       not_same l =
-          branch (eq_test a.min a.max) (λ s. N (sameOne s (singleton b))) (λ e.
-          branch (eq_test b.min b.max) (λ s. N (sameOne (One a.min) s)) (λ f.
+          branch (eq_test a.min a.max) (λ s. N (same_one s (singleton b))) (λ e.
+          branch (eq_test b.min b.max) (λ s. N (same_one (One a.min) s)) (λ f.
           branch (eq_test a.min b.min) N (λ h. absurd (omega ints)) (λ _. no_none)) (λ _. no_none)) (λ _. no_none)
 
 -- the pair of touching ends holds, and the answer is false
 module _ {a b : Interval} (p : Proper w64 a) (q : Proper w64 b) where
-  pub touching-ge-wrong : a.max ≡ b.min → (b.min ≤ℤ a.max) × (geBy (weakCmp a b) ≡ single (pos 0))
-  unfolding weakCmp geBy
+  pub touching-ge-wrong : a.max ≡ b.min → (b.min ≤ℤ a.max) × (ge_by (weak_cmp a b) ≡ single (pos 0))
+  unfolding weak_cmp ge_by
   touching-ge-wrong e = (omega ints, rw (not-bottom p, not-bottom q, is_true (le_test a.max b.min) (λ h. omega ints)))
 
-  pub touching-le-wrong : a.min ≡ b.max → b.min <ℤ a.max → (a.min ≤ℤ b.max) × (leBy (weakCmp a b) ≡ single (pos 0))
-  unfolding weakCmp leBy
+  pub touching-le-wrong : a.min ≡ b.max → b.min <ℤ a.max → (a.min ≤ℤ b.max) × (le_by (weak_cmp a b) ≡ single (pos 0))
+  unfolding weak_cmp le_by
   touching-le-wrong e l = (omega ints, rw (not-bottom p, not-bottom q, is_false (le_test a.max b.min) (λ h. omega ints), is_true (le_test b.max a.min) (λ h. omega ints)))

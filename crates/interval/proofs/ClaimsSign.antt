@@ -15,7 +15,7 @@ use Rattle.sign.specs.Set.{Side, negative, nought, positive, side_of, ◌has◌}
 use Rattle.sign.proofs.Laws.{side-below, side-above}
 use Rattle.interval.specs.Set.{Interval, ◌∈◌, Canonical, none}
 use Rattle.interval.specs.PortedPromise.{Occurs, ExactSign}
-use Rattle.interval.specs.Ported.{sign_of, sideSign}
+use Rattle.interval.specs.Ported.{sign_of, side_sign}
 use Rattle.interval.proofs.Test.{only-test}
 use Rattle.interval.proofs.Ends.{low-in, high-in}
 use Rattle.interval.proofs.Rem.{signs}
@@ -73,8 +73,8 @@ module _ {a : Interval} where
   no_number : a.max <ℤ a.min → (d : Side) → Occurs a d → ⊥
   no_number h d o = let m = o.number_in in omega ints
 
-  side-exact : a.min ≤ℤ a.max → (a.min ≢ pos 0) ⊎ (a.max ≢ pos 0) → ExactSign a (sideSign a)
-  unfolding sideSign
+  side-exact : a.min ≤ℤ a.max → (a.min ≢ pos 0) ⊎ (a.max ≢ pos 0) → ExactSign a (side_sign a)
+  unfolding side_sign
   side-exact o n =
       branch (lt_test a.max (pos 0)) E (λ h. sides Negative (holds (low-negative o (omega ints))) (fails (no-zero-below h)) (fails (no-positive (omega ints)))) λ f.
       branch (le_test a.max (pos 0)) E (λ h. sides NonPos (holds (low-negative o (below f h n))) (holds (zero-there (omega ints) f)) (fails (no-positive h))) λ g.

@@ -5,7 +5,7 @@ use lib.Signed.{◌≤ℤ◌}
 use mir.Syntax.{Width}
 use mir.Val.{SFits}
 use Rattle.whole.specs.Range.{least, greatest, clamp}
-use Rattle.whole.specs.Whole.{minℤ, maxℤ, min4, max4}
+use Rattle.whole.specs.Whole.{min_ℤ, max_ℤ, min4, max4}
 use Rattle.whole.proofs.Linear.{ints}
 use Rattle.whole.proofs.Linear as L
 use Rattle.whole.proofs.Fits.{low, high}
@@ -32,7 +32,7 @@ module _ (w : Width) {z : ℤ} (f : SFits w z) where
 
   module _ (a b c d : ℤ) where
     pub four-under : min4 a b c d ≤ℤ z → min4 (clamp w a) (clamp w b) (clamp w c) (clamp w d) ≤ℤ z
-    four-under = min-is P (minℤ a b) (minℤ c d) (min-is P a b (at a m.0) (at b m.1)) (min-is P c d (at c m.2) (at d m.3))
+    four-under = min-is P (min_ℤ a b) (min_ℤ c d) (min-is P a b (at a m.0) (at b m.1)) (min-is P c d (at c m.2) (at d m.3))
       where
         P : ℤ → Type 0
         P t = t ≤ℤ z → min4 (clamp w a) (clamp w b) (clamp w c) (clamp w d) ≤ℤ z
@@ -41,14 +41,14 @@ module _ (w : Width) {z : ℤ} (f : SFits w z) where
         m =
             let l = L.least (clamp w a) (clamp w b) in
             let r = L.least (clamp w c) (clamp w d) in
-            let n = L.least (minℤ (clamp w a) (clamp w b)) (minℤ (clamp w c) (clamp w d)) in
+            let n = L.least (min_ℤ (clamp w a) (clamp w b)) (min_ℤ (clamp w c) (clamp w d)) in
             (omega ints, omega ints, omega ints, omega ints)
 
         at : (t : ℤ) → min4 (clamp w a) (clamp w b) (clamp w c) (clamp w d) ≤ℤ clamp w t → P t
         at t h k = let c = clamp-under t k in omega ints
 
     pub four-over : z ≤ℤ max4 a b c d → z ≤ℤ max4 (clamp w a) (clamp w b) (clamp w c) (clamp w d)
-    four-over = max-is P (maxℤ a b) (maxℤ c d) (max-is P a b (at a m.0) (at b m.1)) (max-is P c d (at c m.2) (at d m.3))
+    four-over = max-is P (max_ℤ a b) (max_ℤ c d) (max-is P a b (at a m.0) (at b m.1)) (max-is P c d (at c m.2) (at d m.3))
       where
         P : ℤ → Type 0
         P t = z ≤ℤ t → z ≤ℤ max4 (clamp w a) (clamp w b) (clamp w c) (clamp w d)
@@ -57,7 +57,7 @@ module _ (w : Width) {z : ℤ} (f : SFits w z) where
         m =
             let l = L.greatest (clamp w a) (clamp w b) in
             let r = L.greatest (clamp w c) (clamp w d) in
-            let n = L.greatest (maxℤ (clamp w a) (clamp w b)) (maxℤ (clamp w c) (clamp w d)) in
+            let n = L.greatest (max_ℤ (clamp w a) (clamp w b)) (max_ℤ (clamp w c) (clamp w d)) in
             (omega ints, omega ints, omega ints, omega ints)
 
         at : (t : ℤ) → clamp w t ≤ℤ max4 (clamp w a) (clamp w b) (clamp w c) (clamp w d) → P t

@@ -9,10 +9,10 @@ use lib.IntN.{ℤ}
 use Rattle.whole.specs.Choice.{pick}
 use Rattle.whole.proofs.Fits.{low, high}
 use Rattle.refusal.specs.Answer.{Answer, is, refused}
-use Rattle.interval.specs.Set.{Interval, ◌⋯◌, top, bottom, empty?, isBottom, inWidth?, canonical?}
+use Rattle.interval.specs.Set.{Interval, ◌⋯◌, top, bottom, empty?, is_bottom, in_width?, canonical?}
 use Rattle.interval.specs.Mended.{strict, ranged}
 use Rattle.interval.specs.Full.{full?, unmade}
-use Rattle.interval.specs.Ends.{heldRange}
+use Rattle.interval.specs.Ends.{held_range}
 use Rattle.interval.proofs.Test.{is-in}
 
 never : {A : Type 0} → false ≡ true → A
@@ -39,17 +39,17 @@ right-not nothing r outside b false b' i' false false h = refl
 module _ (w : Width) (a b : Interval) (r : Answer Interval) where
   pub is-made-of : full? w a ≡ true → full? w b ≡ true → r ≡ strict w a b r
   unfolding full? canonical?
-  is-made-of h k = made_by (is (bottom w)) r (refused 1) (isBottom w a) (inWidth? w a) (isBottom w b) (inWidth? w b) (empty? a) (empty? b) h k
+  is-made-of h k = made_by (is (bottom w)) r (refused 1) (is_bottom w a) (in_width? w a) (is_bottom w b) (in_width? w b) (empty? a) (empty? b) h k
 
   pub not_left : full? w a ≡ false → unmade w a b ≡ strict w a b r
   unfolding full? canonical? unmade
-  not_left h = left_not (is (bottom w)) r (refused 1) (isBottom w a) (inWidth? w a) (isBottom w b) (inWidth? w b) (empty? a) (empty? b) h
+  not_left h = left_not (is (bottom w)) r (refused 1) (is_bottom w a) (in_width? w a) (is_bottom w b) (in_width? w b) (empty? a) (empty? b) h
 
   pub not_right : full? w b ≡ false → unmade w a b ≡ strict w a b r
   unfolding full? canonical? unmade
-  not_right h = right-not (is (bottom w)) r (refused 1) (isBottom w a) (inWidth? w a) (isBottom w b) (inWidth? w b) (empty? a) (empty? b) h
+  not_right h = right-not (is (bottom w)) r (refused 1) (is_bottom w a) (in_width? w a) (is_bottom w b) (in_width? w b) (empty? a) (empty? b) h
 
 -- every range of two numbers of 64 bits is one
-pub held-64 : (lo hi : ℤ) → SFits w64 lo → SFits w64 hi → is (lo ⋯ hi) ≡ heldRange w64 (is (lo ⋯ hi))
-unfolding heldRange
+pub held-64 : (lo hi : ℤ) → SFits w64 lo → SFits w64 hi → is (lo ⋯ hi) ≡ held_range w64 (is (lo ⋯ hi))
+unfolding held_range
 held-64 lo hi f g = rw (is-in {x = lo} {i = top w64} (record { low = low w64 lo f; high = high w64 lo f }), is-in {x = hi} {i = top w64} (record { low = low w64 hi g; high = high w64 hi g })) refl

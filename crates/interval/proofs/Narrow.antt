@@ -10,7 +10,7 @@ use Rattle.whole.specs.Test.{◌≟◌}
 use Rattle.whole.specs.Range.{least, greatest}
 use Rattle.whole.proofs.Linear.{ints}
 use Rattle.whole.proofs.Decides.{branch, either, lt_test, eq_test, unequal, is_true, is_false}
-use Rattle.interval.specs.Set.{Interval, ◌⋯◌, ◌⊆◌, bottom, isBottom, Proper, Canonical, some}
+use Rattle.interval.specs.Set.{Interval, ◌⋯◌, ◌⊆◌, bottom, is_bottom, Proper, Canonical, some}
 use Rattle.refusal.specs.Answer.{Answer, is}
 use Rattle.interval.specs.Promise.{OutsideRefused, BesideBottom, Taken, renewed, kept, Between, between}
 use Rattle.interval.specs.Mended.{narrowed, filled, narrow}
@@ -53,8 +53,8 @@ module _ (w : Width) where
   unfolding narrow narrowed filled
   narrow-beside a b c d e = rw (canonical-is c, canonical-is d, one-bottom e, bottom-is w)
     where
-      one-bottom : (a ≡ bottom w) ⊎ (b ≡ bottom w) → (isBottom w b || isBottom w a) ≡ true
-      one-bottom (inl e) = rw (e, bottom-found w) (or-true (isBottom w b))
+      one-bottom : (a ≡ bottom w) ⊎ (b ≡ bottom w) → (is_bottom w b || is_bottom w a) ≡ true
+      one-bottom (inl e) = rw (e, bottom-found w) (or-true (is_bottom w b))
       one-bottom (inr e) = rw (e, bottom-found w)
 
 taken : {i n p l : ℤ} → Taken i n p l → pick (p ≟ i) n p ≡ l

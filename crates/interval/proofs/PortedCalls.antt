@@ -10,7 +10,7 @@ use mir.Val.{SFits, to_z, of_z}
 use mir.Facts.{to_z-of_z}
 use Rattle.whole.specs.Choice.{pick}
 use Rattle.whole.specs.Test.{◌<?◌, ◌≟◌}
-use Rattle.whole.specs.Whole.{maxℤ, min4, max4}
+use Rattle.whole.specs.Whole.{max_ℤ, min4, max4}
 use Rattle.whole.specs.Range.{least, greatest, clamp, fits?}
 use Rattle.whole.specs.Exact.{exactly}
 use Rattle.whole.specs.declared.Exact.{Exact}
@@ -27,19 +27,19 @@ use Rattle.interval.specs.declared.IntervalAnswer.{IntervalAnswer}
 use Rattle.interval.specs.declared.IntervalAnswer.TheVariants as A
 use Rattle.interval.specs.declared.Pair.{Pair}
 use Rattle.interval.specs.declared.Single.{Single}
-use Rattle.interval.specs.Set.{Interval, ◌⋯◌, single, isOnly}
+use Rattle.interval.specs.Set.{Interval, ◌⋯◌, single, is_only}
 use Rattle.refusal.specs.Answer.{is, refused}
 use Rattle.interval.specs.Answer.{told}
-use Rattle.interval.specs.Ends.{greatestOf}
+use Rattle.interval.specs.Ends.{greatest_of}
 use Rattle.interval.specs.Mended.{verdict, filled}
-use Rattle.interval.specs.Ported.{sameOne, weakCmp, addMin, addMax, add, neg, sub, largest, remBy, remLarge}
+use Rattle.interval.specs.Ported.{same_one, weak_cmp, add_min, add_max, add, neg, sub, largest, rem_by, rem_large}
 use Rattle.interval.proofs.Ends.{max-is}
 
 pub verdict-called : (s p t q : Bool) (r : Interval) → r ≡ verdict p q → p ≡ s → q ≡ t → r ≡ verdict s t
 verdict-called = called verdict
 
-pub same-called : (a m b n : Single) (r : Order) → r ≡ sameOne m n → m ≡ a → n ≡ b → r ≡ sameOne a b
-same-called = called sameOne
+pub same-called : (a m b n : Single) (r : Order) → r ≡ same_one m n → m ≡ a → n ≡ b → r ≡ same_one a b
+same-called = called same_one
 
 pub filled-ends : (a m b n : ℤ) (r : Interval) → r ≡ filled w64 (m ⋯ n) → m ≡ a → n ≡ b → r ≡ filled w64 (a ⋯ b)
 filled-ends = called (λ x y. filled w64 (x ⋯ y))
@@ -59,11 +59,11 @@ widen_low = called (λ n p. pick (n <? p) (least w64) p)
 pub widen_high : (n m p q r : ℤ) → r ≡ pick (q <? m) (greatest w64) q → m ≡ n → q ≡ p → r ≡ pick (p <? n) (greatest w64) p
 widen_high = called (λ n p. pick (p <? n) (greatest w64) p)
 
-pub add_low : (a m b n r : ℤ) → r ≡ addMin m n → m ≡ a → n ≡ b → r ≡ addMin a b
-add_low = called addMin
+pub add_low : (a m b n r : ℤ) → r ≡ add_min m n → m ≡ a → n ≡ b → r ≡ add_min a b
+add_low = called add_min
 
-pub add-high : (a m b n r : ℤ) → r ≡ addMax m n → m ≡ a → n ≡ b → r ≡ addMax a b
-add-high = called addMax
+pub add-high : (a m b n r : ℤ) → r ≡ add_max m n → m ≡ a → n ≡ b → r ≡ add_max a b
+add-high = called add_max
 
 pub sum-called : (a m b n r : ℤ) → r ≡ clamp w64 (m +ℤ n) → m ≡ a → n ≡ b → r ≡ clamp w64 (a +ℤ b)
 sum-called = called (λ x y. clamp w64 (x +ℤ y))
@@ -86,7 +86,7 @@ greatest-four a k b l c m d n r h p q s t = rw (p, q, s, t) at h
 pub spread-called : (a k b l c m d n : ℤ) (r : Interval) → r ≡ (min4 k l m n ⋯ max4 k l m n) → k ≡ a → l ≡ b → m ≡ c → n ≡ d → r ≡ (min4 a b c d ⋯ max4 a b c d)
 spread-called a k b l c m d n r h p q s t = rw (p, q, s, t) at h
 
-pub by-called : (o u : Order) (a m b n : ℤ) (r : Interval) → r ≡ remBy u m n → u ≡ o → m ≡ a → n ≡ b → r ≡ remBy o a b
+pub by-called : (o u : Order) (a m b n : ℤ) (r : Interval) → r ≡ rem_by u m n → u ≡ o → m ≡ a → n ≡ b → r ≡ rem_by o a b
 by-called o u a m b n r h p q s = rw (p, q, s) at h
 
 pub ruleset ends = (verdict-called, same-called, filled-ends, before-called, after-called, pair_made, widen_low, widen_high, add_low, add-high, sum-called, neg_low, neg-high, min-called, max-called)
@@ -97,10 +97,10 @@ number-flag a m b n r t h p q e = rw (p, q) at (sym h ∙ e)
 pub number-called : (a m b n : ℤ) (r : Bool) → r ≡ (m ≟ n) → m ≡ a → n ≡ b → r ≡ (a ≟ b)
 number-called = called ◌≟◌
 
-pub only-flag : (a : Interval) (m n : ℤ) (r t : Bool) → r ≡ isOnly a m → m ≡ n → r ≡ t → isOnly a n ≡ t
+pub only-flag : (a : Interval) (m n : ℤ) (r t : Bool) → r ≡ is_only a m → m ≡ n → r ≡ t → is_only a n ≡ t
 only-flag a m n r t h p q = rw p at (sym h ∙ q)
 
-pub only-called : (a : Interval) (m n : ℤ) (r : Bool) → r ≡ isOnly a m → m ≡ n → r ≡ isOnly a n
+pub only-called : (a : Interval) (m n : ℤ) (r : Bool) → r ≡ is_only a m → m ≡ n → r ≡ is_only a n
 only-called a m n r h p = rw p at h
 
 pub sub_is : (a b c : Interval) (n : IntervalAnswer) (r : Interval) → told n ≡ neg b → n ≡ A.Is c → r ≡ add a c → is r ≡ sub a b
@@ -113,24 +113,24 @@ sub-refused a b n q h p = rw (sym h, p)
 
 -- ---- the remainder
 -- of two natural numbers the greater fits exactly if both do
-greatest-exact : (j k : ℕ) → greatestOf (exactly w64 (pos j)) (exactly w64 (pos k)) ≡ exactly w64 (maxℤ (pos j) (pos k))
-unfolding greatestOf exactly
-greatest-exact j k = go (fits? w64 (pos j)) (fits? w64 (pos k)) ∙ rw (same_test (both (fits-test w64 (pos j)) (fits-test w64 (pos k))) (fits-test w64 (maxℤ (pos j) (pos k))) (λ h. not_beyond (max-is (SFits w64) (pos j) (pos k) h.0 h.1)) out)
+greatest-exact : (j k : ℕ) → greatest_of (exactly w64 (pos j)) (exactly w64 (pos k)) ≡ exactly w64 (max_ℤ (pos j) (pos k))
+unfolding greatest_of exactly
+greatest-exact j k = go (fits? w64 (pos j)) (fits? w64 (pos k)) ∙ rw (same_test (both (fits-test w64 (pos j)) (fits-test w64 (pos k))) (fits-test w64 (max_ℤ (pos j) (pos k))) (λ h. not_beyond (max-is (SFits w64) (pos j) (pos k) h.0 h.1)) out)
   where
-    go : (p q : Bool) → greatestOf (pick p (Is (pos j)) DoesNotFit) (pick q (Is (pos k)) DoesNotFit) ≡ pick (p && q) (Is (maxℤ (pos j) (pos k))) DoesNotFit
+    go : (p q : Bool) → greatest_of (pick p (Is (pos j)) DoesNotFit) (pick q (Is (pos k)) DoesNotFit) ≡ pick (p && q) (Is (max_ℤ (pos j) (pos k))) DoesNotFit
     go true true = refl
     go true false = refl
     go false q = refl
 
-    over : (i : ℕ) → pos i ≤ℤ maxℤ (pos j) (pos k) → Beyond w64 (pos i) → SFits w64 (maxℤ (pos j) (pos k)) → ⊥
+    over : (i : ℕ) → pos i ≤ℤ max_ℤ (pos j) (pos k) → Beyond w64 (pos i) → SFits w64 (max_ℤ (pos j) (pos k)) → ⊥
     over i l (inl n) f = omega ints
     over i l (inr n) f = let h = high w64 _ f in omega ints
 
-    out : Beyond w64 (pos j) ⊎ Beyond w64 (pos k) → SFits w64 (maxℤ (pos j) (pos k)) → ⊥
+    out : Beyond w64 (pos j) ⊎ Beyond w64 (pos k) → SFits w64 (max_ℤ (pos j) (pos k)) → ⊥
     out (inl n) = over j (omega (ints, L.greatest (pos j) (pos k))) n
     out (inr n) = over k (omega (ints, L.greatest (pos j) (pos k))) n
 
-pub largest-made : (lo hi m n : ℤ) (j k : ℕ) (e f r : Exact) → r ≡ greatestOf e f → e ≡ exactly w64 (pos j) → f ≡ exactly w64 (pos k) → j ≡ nat_abs m → k ≡ nat_abs n → m ≡ lo → n ≡ hi → r ≡ exactly w64 (maxℤ (pos (nat_abs lo)) (pos (nat_abs hi)))
+pub largest-made : (lo hi m n : ℤ) (j k : ℕ) (e f r : Exact) → r ≡ greatest_of e f → e ≡ exactly w64 (pos j) → f ≡ exactly w64 (pos k) → j ≡ nat_abs m → k ≡ nat_abs n → m ≡ lo → n ≡ hi → r ≡ exactly w64 (max_ℤ (pos (nat_abs lo)) (pos (nat_abs hi)))
 largest-made lo hi m n j k e f r h p q s t u v = (rw (p, q, s, t, u, v) at h) ∙ greatest-exact (nat_abs lo) (nat_abs hi)
 
 -- a number that fits is the one that was asked for
@@ -142,17 +142,17 @@ exact-value z k h = go (fits? w64 z) h
     go true e = cc
     go false e = cc
 
-pub large-natural : (x y k n : ℤ) (r : Exact) → r ≡ exactly w64 (maxℤ (pos (nat_abs x)) (pos (nat_abs y))) → r ≡ Is k → n ≡ k → (n <? pos 0) ≡ false
+pub large-natural : (x y k n : ℤ) (r : Exact) → r ≡ exactly w64 (max_ℤ (pos (nat_abs x)) (pos (nat_abs y))) → r ≡ Is k → n ≡ k → (n <? pos 0) ≡ false
 large-natural x y k n r h e p =
-    let z = exact-value (maxℤ (pos (nat_abs x)) (pos (nat_abs y))) k (sym h ∙ e) in
+    let z = exact-value (max_ℤ (pos (nat_abs x)) (pos (nat_abs y))) k (sym h ∙ e) in
     is_false (lt_test n (pos 0)) (λ l. omega (ints, L.greatest (pos (nat_abs x)) (pos (nat_abs y))))
 
-pub large_is : (a b : Interval) (m n k j : ℤ) (e : Exact) (r : Interval) → e ≡ exactly w64 (maxℤ (pos (nat_abs m)) (pos (nat_abs n))) → m ≡ b.min → n ≡ b.max → e ≡ Is k → r ≡ remBy (weakCmp a (single (pos 0))) (neg_ℤ j +ℤ pos 1) (j -ℤ pos 1) → j ≡ k → is r ≡ remLarge a (largest b)
-unfolding remLarge
+pub large_is : (a b : Interval) (m n k j : ℤ) (e : Exact) (r : Interval) → e ≡ exactly w64 (max_ℤ (pos (nat_abs m)) (pos (nat_abs n))) → m ≡ b.min → n ≡ b.max → e ≡ Is k → r ≡ rem_by (weak_cmp a (single (pos 0))) (neg_ℤ j +ℤ pos 1) (j -ℤ pos 1) → j ≡ k → is r ≡ rem_large a (largest b)
+unfolding rem_large
 large_is a b m n k j e r h p q d t u = let l : largest b ≡ Is k = sym (rw (p, q) at h) ∙ d in rw (l, t, u)
 
-pub large-refused : (a b : Interval) (m n : ℤ) (e : Exact) → e ≡ exactly w64 (maxℤ (pos (nat_abs m)) (pos (nat_abs n))) → m ≡ b.min → n ≡ b.max → e ≡ DoesNotFit → refused 2 ≡ remLarge a (largest b)
-unfolding remLarge
+pub large-refused : (a b : Interval) (m n : ℤ) (e : Exact) → e ≡ exactly w64 (max_ℤ (pos (nat_abs m)) (pos (nat_abs n))) → m ≡ b.min → n ≡ b.max → e ≡ DoesNotFit → refused 2 ≡ rem_large a (largest b)
+unfolding rem_large
 large-refused a b m n e h p q d = let l : largest b ≡ DoesNotFit = sym (rw (p, q) at h) ∙ d in rw l
 
 pub ruleset large = (large-natural, large_is, large-refused)

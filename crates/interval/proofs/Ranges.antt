@@ -7,7 +7,7 @@ use lib.Signed.{◌≤ℤ◌, quot_z}
 use mir.Syntax.{Width, w64}
 use mir.Val.{SFits}
 use Rattle.whole.specs.Choice.{pick}
-use Rattle.whole.specs.Whole.{minℤ, maxℤ, min4, max4}
+use Rattle.whole.specs.Whole.{min_ℤ, max_ℤ, min4, max4}
 use Rattle.whole.specs.Range.{least, greatest, fits?}
 use Rattle.whole.specs.Exact.{exactly}
 use Rattle.whole.specs.Sized.{width_of}
@@ -24,8 +24,8 @@ use Rattle.interval.specs.declared.IntervalAnswer.{IntervalAnswer}
 use Rattle.interval.specs.Set.{Interval, ◌⋯◌, ◌∈◌, top, Proper}
 use Rattle.refusal.specs.Answer.{is, refused}
 use Rattle.interval.specs.Answer.{told}
-use Rattle.interval.specs.Ends.{range_of, leastOf, greatestOf, heldRange}
-use Rattle.interval.specs.Mended.{ranged, strict, lowCorner, highCorner}
+use Rattle.interval.specs.Ends.{range_of, least_of, greatest_of, held_range}
+use Rattle.interval.specs.Mended.{ranged, strict, low_corner, high_corner}
 use Rattle.interval.specs.Results.{Least}
 use Rattle.interval.specs.Promise as E
 use Rattle.interval.proofs.Ends.{low-in, min-is, max-is}
@@ -58,11 +58,11 @@ pub ranged-made : (z : Size) (a b : Interval) (lo hi : ℤ) (e f : Exact) (s r :
 ranged-made z a b lo hi e f s r h k p q = let m : told s ≡ ranged (width_of z) lo hi = rw (p, q) at k ∙ range-is (width_of z) lo hi in rw m at h
 
 -- ---- the range of four corners
-pub least-called : (a m b n r : Exact) → r ≡ leastOf m n → m ≡ a → n ≡ b → r ≡ leastOf a b
-least-called = called leastOf
+pub least-called : (a m b n r : Exact) → r ≡ least_of m n → m ≡ a → n ≡ b → r ≡ least_of a b
+least-called = called least_of
 
-pub greatest-called : (a m b n r : Exact) → r ≡ greatestOf m n → m ≡ a → n ≡ b → r ≡ greatestOf a b
-greatest-called = called greatestOf
+pub greatest-called : (a m b n r : Exact) → r ≡ greatest_of m n → m ≡ a → n ≡ b → r ≡ greatest_of a b
+greatest-called = called greatest_of
 
 pub range-called : (a m b n : Exact) (r : IntervalAnswer) → told r ≡ range_of m n → m ≡ a → n ≡ b → told r ≡ range_of a b
 range-called a m b n r h p q = rw (p, q) at h
@@ -75,10 +75,10 @@ module _ (a b c d : ℤ) where
   spread =
       let l = L.least a b in
       let m = L.least c d in
-      let n = L.least (minℤ a b) (minℤ c d) in
+      let n = L.least (min_ℤ a b) (min_ℤ c d) in
       let p = L.greatest a b in
       let q = L.greatest c d in
-      let r = L.greatest (maxℤ a b) (maxℤ c d) in
+      let r = L.greatest (max_ℤ a b) (max_ℤ c d) in
       ((omega ints, omega ints, omega ints, omega ints), (omega ints, omega ints, omega ints, omega ints))
 
   module _ (w : Width) where
@@ -103,11 +103,11 @@ module _ (a b c d : ℤ) where
         some (inr (inl n)) = one-beyond c spread.0.2 spread.1.2 n
         some (inr (inr n)) = one-beyond d spread.0.3 spread.1.3 n
 
-    pub corners-are : range_of (leastOf (leastOf (exactly w a) (exactly w b)) (leastOf (exactly w c) (exactly w d))) (greatestOf (greatestOf (exactly w a) (exactly w b)) (greatestOf (exactly w c) (exactly w d))) ≡ ranged w (min4 a b c d) (max4 a b c d)
-    unfolding range_of leastOf greatestOf exactly fits?
+    pub corners-are : range_of (least_of (least_of (exactly w a) (exactly w b)) (least_of (exactly w c) (exactly w d))) (greatest_of (greatest_of (exactly w a) (exactly w b)) (greatest_of (exactly w c) (exactly w d))) ≡ ranged w (min4 a b c d) (max4 a b c d)
+    unfolding range_of least_of greatest_of exactly fits?
     corners-are = go (fits? w a) (fits? w b) (fits? w c) (fits? w d) ∙ rw ends-fit
       where
-        go : (p q r s : Bool) → range_of (leastOf (leastOf (pick p (Is a) DoesNotFit) (pick q (Is b) DoesNotFit)) (leastOf (pick r (Is c) DoesNotFit) (pick s (Is d) DoesNotFit))) (greatestOf (greatestOf (pick p (Is a) DoesNotFit) (pick q (Is b) DoesNotFit)) (greatestOf (pick r (Is c) DoesNotFit) (pick s (Is d) DoesNotFit))) ≡ pick ((p && q) && (r && s)) (is (min4 a b c d ⋯ max4 a b c d)) (refused 2)
+        go : (p q r s : Bool) → range_of (least_of (least_of (pick p (Is a) DoesNotFit) (pick q (Is b) DoesNotFit)) (least_of (pick r (Is c) DoesNotFit) (pick s (Is d) DoesNotFit))) (greatest_of (greatest_of (pick p (Is a) DoesNotFit) (pick q (Is b) DoesNotFit)) (greatest_of (pick r (Is c) DoesNotFit) (pick s (Is d) DoesNotFit))) ≡ pick ((p && q) && (r && s)) (is (min4 a b c d ⋯ max4 a b c d)) (refused 2)
         go true true true true = refl
         go true true true false = refl
         go true true false s = refl
@@ -115,9 +115,9 @@ module _ (a b c d : ℤ) where
         go false q r s = refl
 
 -- ---- a range of 64 bits, held to a size
-held-range : (z : Size) (lo hi : ℤ) → heldRange (width_of z) (ranged w64 lo hi) ≡ ranged (width_of z) lo hi
-unfolding heldRange
-held-range z lo hi = branch (both (in-test lo (top w64)) (in-test hi (top w64))) (λ r. heldRange (width_of z) r ≡ ranged (width_of z) lo hi) (λ _. refl) λ n. rw (is_false (both (in-test lo (top (width_of z))) (in-test hi (top (width_of z)))) (λ h. none h n))
+held-range : (z : Size) (lo hi : ℤ) → held_range (width_of z) (ranged w64 lo hi) ≡ ranged (width_of z) lo hi
+unfolding held_range
+held-range z lo hi = branch (both (in-test lo (top w64)) (in-test hi (top w64))) (λ r. held_range (width_of z) r ≡ ranged (width_of z) lo hi) (λ _. refl) λ n. rw (is_false (both (in-test lo (top (width_of z))) (in-test hi (top (width_of z)))) (λ h. none h n))
   where
     out : (x : ℤ) → x ∈ top (width_of z) → Beyond w64 x → ⊥
     out x h = not_beyond (wider z (fits (width_of z) x h.low h.high))
@@ -130,15 +130,15 @@ pub range-exact : (z : Size) (lo hi m n : ℤ) (e f : Exact) (r : IntervalAnswer
 range-exact z lo hi m n e f r h p q u v = rw (p, q, u, v) at h ∙ range-is (width_of z) lo hi
 
 -- the four corners of f, worked out at 64 bits and held to a size
-pub corners-held : (f : ℤ → ℤ → ℤ) (z : Size) (a b : Interval) (e g h i : Exact) (s t : IntervalAnswer) → told t ≡ heldRange (width_of z) (told s) → told s ≡ range_of (leastOf (leastOf e g) (leastOf h i)) (greatestOf (greatestOf e g) (greatestOf h i)) → e ≡ exactly w64 (f a.min b.min) → g ≡ exactly w64 (f a.min b.max) → h ≡ exactly w64 (f a.max b.min) → i ≡ exactly w64 (f a.max b.max) → told t ≡ ranged (width_of z) (lowCorner f a b) (highCorner f a b)
+pub corners-held : (f : ℤ → ℤ → ℤ) (z : Size) (a b : Interval) (e g h i : Exact) (s t : IntervalAnswer) → told t ≡ held_range (width_of z) (told s) → told s ≡ range_of (least_of (least_of e g) (least_of h i)) (greatest_of (greatest_of e g) (greatest_of h i)) → e ≡ exactly w64 (f a.min b.min) → g ≡ exactly w64 (f a.min b.max) → h ≡ exactly w64 (f a.max b.min) → i ≡ exactly w64 (f a.max b.max) → told t ≡ ranged (width_of z) (low_corner f a b) (high_corner f a b)
 corners-held f z a b e g h i s t l k p q u v =
-    let n : told s ≡ ranged w64 (lowCorner f a b) (highCorner f a b) = rw (p, q, u, v) at k ∙ corners-are (f a.min b.min) (f a.min b.max) (f a.max b.min) (f a.max b.max) w64 in
-    l ∙ (ap (heldRange (width_of z)) n ∙ held-range z (lowCorner f a b) (highCorner f a b))
+    let n : told s ≡ ranged w64 (low_corner f a b) (high_corner f a b) = rw (p, q, u, v) at k ∙ corners-are (f a.min b.min) (f a.min b.max) (f a.max b.min) (f a.max b.max) w64 in
+    l ∙ (ap (held_range (width_of z)) n ∙ held-range z (low_corner f a b) (high_corner f a b))
 
-pub quotients-held : (z : Size) (a b : Interval) (e g h i : Exact) (s t : IntervalAnswer) → told t ≡ heldRange (width_of z) (told s) → told s ≡ range_of (leastOf (leastOf e g) (leastOf h i)) (greatestOf (greatestOf e g) (greatestOf h i)) → e ≡ exactly w64 (quot_z a.min b.min) → g ≡ exactly w64 (quot_z a.min b.max) → h ≡ exactly w64 (quot_z a.max b.min) → i ≡ exactly w64 (quot_z a.max b.max) → told t ≡ ranged (width_of z) (lowCorner quot_z a b) (highCorner quot_z a b)
+pub quotients-held : (z : Size) (a b : Interval) (e g h i : Exact) (s t : IntervalAnswer) → told t ≡ held_range (width_of z) (told s) → told s ≡ range_of (least_of (least_of e g) (least_of h i)) (greatest_of (greatest_of e g) (greatest_of h i)) → e ≡ exactly w64 (quot_z a.min b.min) → g ≡ exactly w64 (quot_z a.min b.max) → h ≡ exactly w64 (quot_z a.max b.min) → i ≡ exactly w64 (quot_z a.max b.max) → told t ≡ ranged (width_of z) (low_corner quot_z a b) (high_corner quot_z a b)
 quotients-held = corners-held quot_z
 
-pub products-made : (z : Size) (a b : Interval) (e g h i : Exact) (s t r : IntervalAnswer) → told r ≡ strict (width_of z) a b (told t) → told t ≡ heldRange (width_of z) (told s) → told s ≡ range_of (leastOf (leastOf e g) (leastOf h i)) (greatestOf (greatestOf e g) (greatestOf h i)) → e ≡ exactly w64 (a.min *ℤ b.min) → g ≡ exactly w64 (a.min *ℤ b.max) → h ≡ exactly w64 (a.max *ℤ b.min) → i ≡ exactly w64 (a.max *ℤ b.max) → told r ≡ strict (width_of z) a b (ranged (width_of z) (lowCorner ◌*ℤ◌ a b) (highCorner ◌*ℤ◌ a b))
+pub products-made : (z : Size) (a b : Interval) (e g h i : Exact) (s t r : IntervalAnswer) → told r ≡ strict (width_of z) a b (told t) → told t ≡ held_range (width_of z) (told s) → told s ≡ range_of (least_of (least_of e g) (least_of h i)) (greatest_of (greatest_of e g) (greatest_of h i)) → e ≡ exactly w64 (a.min *ℤ b.min) → g ≡ exactly w64 (a.min *ℤ b.max) → h ≡ exactly w64 (a.max *ℤ b.min) → i ≡ exactly w64 (a.max *ℤ b.max) → told r ≡ strict (width_of z) a b (ranged (width_of z) (low_corner ◌*ℤ◌ a b) (high_corner ◌*ℤ◌ a b))
 products-made z a b e g h i s t r m l k p q u v = rw (corners-held ◌*ℤ◌ z a b e g h i s t l k p q u v) at m
 
 pub quot-called : (a m b n : ℤ) (r : Exact) → r ≡ exactly w64 (quot_z m n) → m ≡ a → n ≡ b → r ≡ exactly w64 (quot_z a b)

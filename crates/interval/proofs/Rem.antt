@@ -12,7 +12,7 @@ use Rattle.whole.proofs.Linear as L
 use Rattle.whole.proofs.Shapes.{lin}
 use Rattle.whole.proofs.Divide.{rem-small, rem-nonneg, rem-nonpos}
 use Rattle.interval.specs.Set.{Interval, ◌∈◌, Proper}
-use Rattle.interval.specs.Mended.{magnitude, remWithin, remRange}
+use Rattle.interval.specs.Mended.{magnitude, rem_within, rem_range}
 use Rattle.whole.proofs.Decides.{branch, le_test}
 use Rattle.interval.proofs.Test.{only-test}
 
@@ -23,8 +23,8 @@ module _ {a b : Interval} {x d : ℤ} (p : x ∈ a) (q : d ∈ b) (nz : d ≢ po
       let s = rem-small x d nz in
       omega (lin, s, abs (rem_z x d), abs d, L.greatest (neg_ℤ b.min) b.max, L.neg b.min)
 
-  pub rem-covers : rem_z x d ∈ remRange a (magnitude b)
-  unfolding remWithin
+  pub rem-covers : rem_z x d ∈ rem_range a (magnitude b)
+  unfolding rem_within
   rem-covers =
       branch (only-test a (pos 0)) P (λ h. record { low = rem-nonneg x d (omega ints); high = rem-nonpos x d (omega ints) }) λ _.
       branch (le_test (pos 0) a.min) P (λ h. record { low = rem-nonneg x d (omega ints); high = within.1 }) λ _.
@@ -59,8 +59,8 @@ module _ {w : Width} (a : Interval) {b : Interval} (q : Proper w b) (nz : (b.min
     | inr h ↦ omega (lin, from-≢ h, mirror w, L.greatest (neg_ℤ b.min) b.max, L.neg b.min)
   ]
 
-  pub rem-proper : Proper w (remRange a (magnitude b))
-  unfolding remWithin
+  pub rem-proper : Proper w (rem_range a (magnitude b))
+  unfolding rem_within
   rem-proper =
       branch (only-test a (pos 0)) (Proper w) (λ _. proper (omega lin) (omega (lin, signs w)) (omega (lin, signs w))) λ _.
       branch (le_test (pos 0) a.min) (Proper w) (λ _. proper (omega (lin, size)) (omega (lin, signs w)) (omega (lin, size))) λ _.

@@ -10,7 +10,7 @@ use mir.Val.{SFits, to_z, of_z, hbits}
 use mir.Facts.{to_z-of_z}
 use Rattle.whole.specs.Choice.{pick}
 use Rattle.whole.specs.Test.{◌≤?◌, ◌<?◌, ◌≟◌}
-use Rattle.whole.specs.Whole.{maxℤ}
+use Rattle.whole.specs.Whole.{max_ℤ}
 use Rattle.whole.specs.Range.{least, greatest, clamp, fits?}
 use Rattle.whole.specs.Exact.{exactly}
 use Rattle.whole.specs.Sized.{width_of}
@@ -24,10 +24,10 @@ use Rattle.whole.proofs.Fits.{machine, range, low, high}
 use Rattle.whole.proofs.Decides.{branch, both, lt_test, eq_test, yes, no, is_false}
 use Rattle.whole.proofs.Calls.{called}
 use Rattle.interval.specs.declared.IntervalAnswer.{IntervalAnswer}
-use Rattle.interval.specs.Set.{Interval, ◌⋯◌, bottom, single, isOnly, empty?, canonical?}
+use Rattle.interval.specs.Set.{Interval, ◌⋯◌, bottom, single, is_only, empty?, canonical?}
 use Rattle.refusal.specs.Answer.{Answer, is, refused}
 use Rattle.interval.specs.Answer.{told}
-use Rattle.interval.specs.Mended.{strict, remSingle, remWithin}
+use Rattle.interval.specs.Mended.{strict, rem_single, rem_within}
 use Rattle.interval.proofs.Test.{only-test}
 use Rattle.interval.proofs.Rem.{signs, one-fits}
 
@@ -36,11 +36,11 @@ module _ (s : Size) (x y m n : ℤ) (e : Exact) (h : e ≡ exactly (width_of s) 
   asked : e ≡ exactly (width_of s) (quot_z x y)
   asked = rw (p, o) at h
 
-  pub rem-single : (q z k l : ℤ) → e ≡ Is q → z ≡ rem_z m n → k ≡ z → l ≡ z → is (k ⋯ l) ≡ remSingle (width_of s) x y
+  pub rem-single : (q z k l : ℤ) → e ≡ Is q → z ≡ rem_z m n → k ≡ z → l ≡ z → is (k ⋯ l) ≡ rem_single (width_of s) x y
   unfolding fits?
   rem-single q z k l f r u v = rw (u, v, r, p, o, found-fits (width_of s) (quot_z x y) q (sym asked ∙ f)) refl
 
-  pub rem-over : e ≡ DoesNotFit → refused 2 ≡ remSingle (width_of s) x y
+  pub rem-over : e ≡ DoesNotFit → refused 2 ≡ rem_single (width_of s) x y
   unfolding fits?
   rem-over f = rw (not_found (width_of s) (quot_z x y) (sym asked ∙ f)) refl
 
@@ -74,16 +74,16 @@ module _ {w : Width} {x : ℤ} (f : SFits w x) where
   ]
 
 module _ {w : Width} {lo hi : ℤ} (f : SFits w lo) (g : SFits w hi) (o : lo ≤ℤ hi) (l h : ℤ) where
-  pub reach-is : l ≡ clamp w (lo +ℤ pos 1) → h ≡ clamp w (hi +ℤ negsuc 0) → maxℤ (neg_ℤ l) h ≡ maxℤ (neg_ℤ lo) hi -ℤ pos 1
+  pub reach-is : l ≡ clamp w (lo +ℤ pos 1) → h ≡ clamp w (hi +ℤ negsuc 0) → max_ℤ (neg_ℤ l) h ≡ max_ℤ (neg_ℤ lo) hi -ℤ pos 1
   reach-is p q = go (up_one f) (down-one g)
     where
-      close : (l ≡ lo +ℤ pos 1) ⊎ ((lo ≡ greatest w) × (l ≡ greatest w)) → (h ≡ hi +ℤ negsuc 0) ⊎ ((hi ≡ least w) × (h ≡ least w)) → maxℤ (neg_ℤ l) h ≡ maxℤ (neg_ℤ lo) hi -ℤ pos 1
+      close : (l ≡ lo +ℤ pos 1) ⊎ ((lo ≡ greatest w) × (l ≡ greatest w)) → (h ≡ hi +ℤ negsuc 0) ⊎ ((hi ≡ least w) × (h ≡ least w)) → max_ℤ (neg_ℤ l) h ≡ max_ℤ (neg_ℤ lo) hi -ℤ pos 1
       close (inl s) (inl t) = omega (lin, L.greatest (neg_ℤ l) h, L.greatest (neg_ℤ lo) hi, L.neg lo, L.neg l)
       close (inl s) (inr t) = omega (lin, L.greatest (neg_ℤ l) h, L.greatest (neg_ℤ lo) hi, L.neg lo, L.neg l, pow_pos (hbits w), low w _ f)
       close (inr s) (inl t) = omega (lin, L.greatest (neg_ℤ l) h, L.greatest (neg_ℤ lo) hi, L.neg lo, L.neg l, high w _ g, one-fits w)
       close (inr s) (inr t) = absurd (omega (lin, signs w))
 
-      go : (clamp w (lo +ℤ pos 1) ≡ lo +ℤ pos 1) ⊎ ((lo ≡ greatest w) × (clamp w (lo +ℤ pos 1) ≡ greatest w)) → (clamp w (hi +ℤ negsuc 0) ≡ hi +ℤ negsuc 0) ⊎ ((hi ≡ least w) × (clamp w (hi +ℤ negsuc 0) ≡ least w)) → maxℤ (neg_ℤ l) h ≡ maxℤ (neg_ℤ lo) hi -ℤ pos 1
+      go : (clamp w (lo +ℤ pos 1) ≡ lo +ℤ pos 1) ⊎ ((lo ≡ greatest w) × (clamp w (lo +ℤ pos 1) ≡ greatest w)) → (clamp w (hi +ℤ negsuc 0) ≡ hi +ℤ negsuc 0) ⊎ ((hi ≡ least w) × (clamp w (hi +ℤ negsuc 0) ≡ least w)) → max_ℤ (neg_ℤ l) h ≡ max_ℤ (neg_ℤ lo) hi -ℤ pos 1
       go (inl s) (inl t) = close (inl (p ∙ s)) (inl (q ∙ t))
       go (inl s) (inr t) = close (inl (p ∙ s)) (inr (t.0, q ∙ t.1))
       go (inr s) (inl t) = close (inr (s.0, p ∙ s.1)) (inl (q ∙ t))
@@ -93,26 +93,26 @@ module _ {w : Width} {lo hi : ℤ} (f : SFits w lo) (g : SFits w hi) (o : lo ≤
 pub negated-need : (x m l : ℤ) → l ≡ clamp w64 (m +ℤ pos 1) → m ≡ x → SFits w64 x → SFits w64 l → SFits w64 (pos 0 -ℤ to_z w64 (of_z w64 l))
 negated-need x m l e p f g = rw (to_z-of_z g, +ℤ_idl (neg_ℤ l)) (next-negated f l (rw p at e))
 
-pub reached : (lo hi l h m n p q r : ℤ) → r ≡ maxℤ p q → p ≡ neg_ℤ l → q ≡ h → l ≡ clamp w64 (m +ℤ pos 1) → h ≡ clamp w64 (n +ℤ negsuc 0) → m ≡ lo → n ≡ hi → SFits w64 lo → SFits w64 hi → (hi <? lo) ≡ false → r ≡ maxℤ (neg_ℤ lo) hi -ℤ pos 1
+pub reached : (lo hi l h m n p q r : ℤ) → r ≡ max_ℤ p q → p ≡ neg_ℤ l → q ≡ h → l ≡ clamp w64 (m +ℤ pos 1) → h ≡ clamp w64 (n +ℤ negsuc 0) → m ≡ lo → n ≡ hi → SFits w64 lo → SFits w64 hi → (hi <? lo) ≡ false → r ≡ max_ℤ (neg_ℤ lo) hi -ℤ pos 1
 reached lo hi l h m n p q r e a b c d i j f g o = (rw (a, b) at e) ∙ reach-is f g (no (lt_test hi lo) o) l h (rw i at c) (rw j at d)
 
 -- the greatest magnitude less one has an opposite
-pub reach-need : (lo hi m n h : ℤ) → h ≡ maxℤ (neg_ℤ m) n -ℤ pos 1 → m ≡ lo → n ≡ hi → (hi <? lo) ≡ false → SFits w64 h → SFits w64 (pos 0 -ℤ to_z w64 (of_z w64 h))
+pub reach-need : (lo hi m n h : ℤ) → h ≡ max_ℤ (neg_ℤ m) n -ℤ pos 1 → m ≡ lo → n ≡ hi → (hi <? lo) ≡ false → SFits w64 h → SFits w64 (pos 0 -ℤ to_z w64 (of_z w64 h))
 reach-need lo hi m n h e p q o g =
     let k : lo ≤ℤ hi = no (lt_test hi lo) o in
-    let d : h ≡ maxℤ (neg_ℤ lo) hi -ℤ pos 1 = rw (p, q) at e in
-    rw (to_z-of_z g, +ℤ_idl (neg_ℤ h)) (omega (machine, range g, L.greatest (neg_ℤ lo) hi, L.neg lo, L.sub (maxℤ (neg_ℤ lo) hi) (pos 1)))
+    let d : h ≡ max_ℤ (neg_ℤ lo) hi -ℤ pos 1 = rw (p, q) at e in
+    rw (to_z-of_z g, +ℤ_idl (neg_ℤ h)) (omega (machine, range g, L.greatest (neg_ℤ lo) hi, L.neg lo, L.sub (max_ℤ (neg_ℤ lo) hi) (pos 1)))
 
 pub reach-read : (h z : ℤ) → h ≡ z -ℤ pos 1 → SFits w64 h → pos 0 -ℤ to_z w64 (of_z w64 h) ≡ pos 1 -ℤ z
 reach-read h z e g = rw (to_z-of_z g) (omega (lin, L.sub z (pos 1)))
 
-pub reach-called : (a m b n r : ℤ) → r ≡ maxℤ (neg_ℤ m) n -ℤ pos 1 → m ≡ a → n ≡ b → r ≡ maxℤ (neg_ℤ a) b -ℤ pos 1
-reach-called = called (λ x y. maxℤ (neg_ℤ x) y -ℤ pos 1)
+pub reach-called : (a m b n r : ℤ) → r ≡ max_ℤ (neg_ℤ m) n -ℤ pos 1 → m ≡ a → n ≡ b → r ≡ max_ℤ (neg_ℤ a) b -ℤ pos 1
+reach-called = called (λ x y. max_ℤ (neg_ℤ x) y -ℤ pos 1)
 
-pub within-called : (a : Interval) (l m h n : ℤ) (r : Interval) → r ≡ remWithin a m n → m ≡ l → n ≡ h → r ≡ remWithin a l h
-within-called a = called (remWithin a)
+pub within-called : (a : Interval) (l m h n : ℤ) (r : Interval) → r ≡ rem_within a m n → m ≡ l → n ≡ h → r ≡ rem_within a l h
+within-called a = called (rem_within a)
 
-pub single-called : (s : Size) (x m y n : ℤ) (r : IntervalAnswer) → told r ≡ remSingle (width_of s) m n → m ≡ x → n ≡ y → told r ≡ remSingle (width_of s) x y
+pub single-called : (s : Size) (x m y n : ℤ) (r : IntervalAnswer) → told r ≡ rem_single (width_of s) m n → m ≡ x → n ≡ y → told r ≡ rem_single (width_of s) x y
 single-called s x m y n r h p q = rw (p, q) at h
 
 pub ruleset remains = (reach-need, reach-read, reach-called, within-called, single-called)

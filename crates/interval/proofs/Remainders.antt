@@ -17,10 +17,10 @@ use Rattle.whole.proofs.Fits.{fits, low, high, zero-fits}
 use Rattle.whole.proofs.Divide.{fits-quot, fits-quot-above, rem-nonneg, rem-nonpos}
 use Rattle.whole.proofs.Decides.{Decides, holds, fails, branch, both, eq_test, le_test, equal, unequal, is_true, is_false}
 use Rattle.refusal.specs.Answer.{Answer, is, refused}
-use Rattle.interval.specs.Set.{Interval, ◌⋯◌, ◌∈◌, ◌∉◌, top, bottom, single, isOnly, Proper}
+use Rattle.interval.specs.Set.{Interval, ◌⋯◌, ◌∈◌, ◌∉◌, top, bottom, single, is_only, Proper}
 use Rattle.interval.specs.Results.{Covering, covering, refusing}
 use Rattle.interval.specs.Promise.{Magnitude, Several, MinByMinusOne, Remainders}
-use Rattle.interval.specs.Mended.{magnitude, remWithin, remSingle, remOf}
+use Rattle.interval.specs.Mended.{magnitude, rem_within, rem_single, rem_of}
 use Rattle.interval.proofs.Calls.{made}
 use Rattle.interval.proofs.Test.{in-test, only-test, is-in, contrary}
 use Rattle.interval.proofs.Ends.{low-in, high-in, only}
@@ -88,31 +88,31 @@ module _ {w : Width} {a b : Interval} (f : SFits w a.min) (d : a.min ≡ a.max) 
   these-two (holds u) (fails v) n = absurd (beyond (inr v) n)
   these-two (fails u) t n = absurd (beyond (inl u) n)
 
-  pub alone-covers : Covering rem_z (λ x y. y ≢ pos 0) (MinByMinusOne w a b) a b (remSingle w a.min b.min)
+  pub alone-covers : Covering rem_z (λ x y. y ≢ pos 0) (MinByMinusOne w a b) a b (rem_single w a.min b.min)
   alone-covers =
       branch (in-test _ (top w)) (Covering rem_z (λ x y. y ≢ pos 0) (MinByMinusOne w a b) a b)
       (λ h. covering (λ m. not-these w m h) (λ x y u v nz. rw (only d u, only e v) (record { low = omega ints; high = omega ints })))
       (λ n. refusing (these-two (eq_test a.min (least w)) (eq_test b.min (negsuc 0)) n))
 
 module _ {w : Width} {a b : Interval} (p : Proper w a) (q : Proper w b) where
-  by_zero : b ≡ single (pos 0) → remOf w a b ≡ is (bottom w)
+  by_zero : b ≡ single (pos 0) → rem_of w a b ≡ is (bottom w)
   by_zero e = rw (e, equal (pos 0))
 
-  nonzero : b ≢ single (pos 0) → isOnly b (pos 0) ≡ false
+  nonzero : b ≢ single (pos 0) → is_only b (pos 0) ≡ false
   nonzero n = is_false (only-test b (pos 0)) (λ h. n (made b.min b.max (pos 0) (pos 0) h.0 h.1))
 
   several : Several a b → ((a.min ≟ a.max) && (b.min ≟ b.max)) ≡ false
   several (inl n) = rw (unequal n)
   several (inr n) = rw (unequal n) (and-false (a.min ≟ a.max))
 
-  not-only : a ≢ single (pos 0) → isOnly a (pos 0) ≡ false
+  not-only : a ≢ single (pos 0) → is_only a (pos 0) ≡ false
   not-only n = is_false (only-test a (pos 0)) (λ h. n (made a.min a.max (pos 0) (pos 0) h.0 h.1))
 
   left-fits : SFits w a.min
   left-fits = fits w a.min p.above (omega ints)
 
   -- ---- two single numbers
-  of_two : (x y : ℤ) → a ≡ single x → b ≡ single y → y ≢ pos 0 → (MinByMinusOne w a b → ⊥) → remOf w a b ≡ is (single (rem_z x y))
+  of_two : (x y : ℤ) → a ≡ single x → b ≡ single y → y ≢ pos 0 → (MinByMinusOne w a b → ⊥) → rem_of w a b ≡ is (single (rem_z x y))
   of_two x y d e nz n = rw (d, e, unequal nz, equal x, equal y, is-in fit)
     where
       ways : {t : Bool} → Decides (x ≡ least w) (x ≢ least w) t → (x ≢ least w) ⊎ (y ≢ negsuc 0)
@@ -125,8 +125,8 @@ module _ {w : Width} {a b : Interval} (p : Proper w a) (q : Proper w b) where
       fit : quot_z x y ∈ top w
       fit = let g = quotient_fits f (ways (eq_test x (least w))) in record { low = low w (quot_z x y) g; high = high w (quot_z x y) g }
 
-  of_zero : b ≢ single (pos 0) → a ≡ single (pos 0) → remOf w a b ≡ is (single (pos 0))
-  unfolding remWithin
+  of_zero : b ≢ single (pos 0) → a ≡ single (pos 0) → rem_of w a b ≡ is (single (pos 0))
+  unfolding rem_within
   of_zero nz e =
       rw (nonzero nz, e, equal (pos 0))
       (branch (eq_test b.min b.max) (λ r. r ≡ is (single (pos 0))) (λ h. rw (is-in fit, none)) (λ _. refl))
@@ -139,23 +139,23 @@ module _ {w : Width} {a b : Interval} (p : Proper w a) (q : Proper w b) where
 
   -- ---- one of them with several
   module _ (s : Several a b) (nz : b ≢ single (pos 0)) where
-    from_zero_up : a ≢ single (pos 0) → pos 0 ≤ℤ a.min → (m : ℤ) → Magnitude b m → remOf w a b ≡ is (pos 0 ⋯ (m -ℤ pos 1))
-    unfolding remWithin
+    from_zero_up : a ≢ single (pos 0) → pos 0 ≤ℤ a.min → (m : ℤ) → Magnitude b m → rem_of w a b ≡ is (pos 0 ⋯ (m -ℤ pos 1))
+    unfolding rem_within
     from_zero_up na h m g = rw (nonzero nz, several s, not-only na, is_true (le_test (pos 0) a.min) (λ k. omega ints), magnitude-only q.ordered m g)
 
-    to-zero : a ≢ single (pos 0) → a.max ≤ℤ pos 0 → (m : ℤ) → Magnitude b m → remOf w a b ≡ is ((pos 1 -ℤ m) ⋯ pos 0)
-    unfolding remWithin
+    to-zero : a ≢ single (pos 0) → a.max ≤ℤ pos 0 → (m : ℤ) → Magnitude b m → rem_of w a b ≡ is ((pos 1 -ℤ m) ⋯ pos 0)
+    unfolding rem_within
     to-zero na h m g = rw (nonzero nz, several s, not-only na, is_false (le_test (pos 0) a.min) below-zero, is_true (le_test a.max (pos 0)) (λ k. omega ints), magnitude-only q.ordered m g)
       where
         below-zero : pos 0 ≤ℤ a.min → ⊥
         below-zero k = na (made a.min a.max (pos 0) (pos 0) (omega ints) (omega ints))
 
-    across : a.min <ℤ pos 0 → pos 0 <ℤ a.max → (m : ℤ) → Magnitude b m → remOf w a b ≡ is ((pos 1 -ℤ m) ⋯ (m -ℤ pos 1))
-    unfolding remWithin
+    across : a.min <ℤ pos 0 → pos 0 <ℤ a.max → (m : ℤ) → Magnitude b m → rem_of w a b ≡ is ((pos 1 -ℤ m) ⋯ (m -ℤ pos 1))
+    unfolding rem_within
     across h k m g = rw (nonzero nz, several s, is_false (only-test a (pos 0)) (λ e. omega ints), is_false (le_test (pos 0) a.min) (λ e. omega ints), is_false (le_test a.max (pos 0)) (λ e. omega ints), magnitude-only q.ordered m g)
 
   -- ---- it covers, refused by 2 for MIN and -1 alone
-  covers : Covering rem_z (λ x y. y ≢ pos 0) (MinByMinusOne w a b) a b (remOf w a b)
+  covers : Covering rem_z (λ x y. y ≢ pos 0) (MinByMinusOne w a b) a b (rem_of w a b)
   covers =
       branch (only-test b (pos 0)) C (λ h. covering (λ m. omega (ints, ap (λ i. i.min) m.1)) (λ x y s t nz. absurd (nz (omega ints)))) λ _.
       branch (both (eq_test a.min a.max) (eq_test b.min b.max)) C (λ h. alone-covers left-fits h.0 h.1) λ s.
@@ -168,7 +168,7 @@ module _ {w : Width} {a b : Interval} (p : Proper w a) (q : Proper w b) where
       more (inl n) m = n (ap (λ i. i.min) m.0 ∙ sym (ap (λ i. i.max) m.0))
       more (inr n) m = n (ap (λ i. i.min) m.1 ∙ sym (ap (λ i. i.max) m.1))
 
-  pub remainders : Remainders w a b (remOf w a b)
+  pub remainders : Remainders w a b (rem_of w a b)
   remainders = record {
     by_zero = by_zero;
     too_wide = (refused-only covers, refused-when covers);

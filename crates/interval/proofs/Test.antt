@@ -5,12 +5,12 @@ use mathlib.Core.Bool.{true, false}
 use lib.IntN.{ℤ}
 use Rattle.whole.proofs.Linear.{ints}
 use Rattle.whole.proofs.Decides.{Decides, both, weaken, le_test, eq_test, is_true, is_false}
-use Rattle.interval.specs.Set.{Interval, ◌∈◌, ◌∉◌, ◌∈?◌, isOnly}
+use Rattle.interval.specs.Set.{Interval, ◌∈◌, ◌∉◌, ◌∈?◌, is_only}
 
 pub in-test : (x : ℤ) (i : Interval) → Decides (x ∈ i) (x ∉ i) (x ∈? i)
 in-test x i = weaken (λ h. record { low = h.0; high = h.1 }) (λ h. h) (both (le_test i.min x) (le_test x i.max))
 
-pub only-test : (i : Interval) (n : ℤ) → Decides ((i.min ≡ n) × (i.max ≡ n)) ((i.min ≢ n) ⊎ (i.max ≢ n)) (isOnly i n)
+pub only-test : (i : Interval) (n : ℤ) → Decides ((i.min ≡ n) × (i.max ≡ n)) ((i.min ≢ n) ⊎ (i.max ≢ n)) (is_only i n)
 only-test i n = both (eq_test i.min n) (eq_test i.max n)
 
 pub contrary : {x : ℤ} {i : Interval} → x ∉ i → x ∈ i → ⊥

@@ -6,9 +6,9 @@ use lib.IntN.{ℤ, pos}
 use lib.Signed.{◌≤ℤ◌, ◌<ℤ◌}
 use Rattle.whole.proofs.Linear.{ints, split}
 use Rattle.whole.specs.Test.{◌≤?◌, ◌<?◌, ◌≟◌, truth}
-use Rattle.interval.specs.Set.{Interval, ◌⋯◌, ◌∈◌, single, isOnly}
+use Rattle.interval.specs.Set.{Interval, ◌⋯◌, ◌∈◌, single, is_only}
 use Rattle.interval.specs.Promise.{Some, All, Verdict, always, never, sometimes}
-use Rattle.interval.specs.Mended.{verdict, lessV, lessOrEqualV, equalsV, andV, orV, notV}
+use Rattle.interval.specs.Mended.{verdict, less_v, less_or_equal_v, equals_v, and_v, or_v, not_v}
 use Rattle.whole.proofs.Decides.{Decides, holds, fails, le_test, lt_test, eq_test, both, either, isn't}
 use Rattle.interval.proofs.Test.{only-test}
 use Rattle.interval.proofs.Ends.{low-in, high-in}
@@ -34,8 +34,8 @@ module _ {A L B M R S : Type 0} where
   told (fails l) (fails m) (fails s) f g = zero_in
 
 module _ {a b : Interval} {x y : ℤ} (p : x ∈ a) (q : y ∈ b) where
-  -- logic. The tests on ranges are `isOnly`, 000's `singleton`
-  pub and-told : truth ((x ≟ pos 1) && (y ≟ pos 1)) ∈ andV a b
+  -- logic. The tests on ranges are `is_only`, 000's `singleton`
+  pub and-told : truth ((x ≟ pos 1) && (y ≟ pos 1)) ∈ and_v a b
   and-told = told (both (only-test a _) (only-test b _)) (either (only-test a _) (only-test b _)) (both (eq_test x _) (eq_test y _)) every none
     where
       every : ((a.min ≡ pos 1) × (a.max ≡ pos 1)) × ((b.min ≡ pos 1) × (b.max ≡ pos 1)) → (x ≢ pos 1) ⊎ (y ≢ pos 1) → ⊥
@@ -46,7 +46,7 @@ module _ {a b : Interval} {x y : ℤ} (p : x ∈ a) (q : y ∈ b) where
       none (inl h) r = omega ints
       none (inr h) r = omega ints
 
-  pub or-told : truth ((x ≟ pos 1) || (y ≟ pos 1)) ∈ orV a b
+  pub or-told : truth ((x ≟ pos 1) || (y ≟ pos 1)) ∈ or_v a b
   or-told = told (either (only-test a _) (only-test b _)) (both (only-test a _) (only-test b _)) (either (eq_test x _) (eq_test y _)) every none
     where
       every : ((a.min ≡ pos 1) × (a.max ≡ pos 1)) ⊎ ((b.min ≡ pos 1) × (b.max ≡ pos 1)) → (x ≢ pos 1) × (y ≢ pos 1) → ⊥
@@ -57,7 +57,7 @@ module _ {a b : Interval} {x y : ℤ} (p : x ∈ a) (q : y ∈ b) where
       none h (inl r) = omega ints
       none h (inr r) = omega ints
 
-pub not-told : {a : Interval} {x : ℤ} → x ∈ a → truth (not (x ≟ pos 1)) ∈ notV a
+pub not-told : {a : Interval} {x : ℤ} → x ∈ a → truth (not (x ≟ pos 1)) ∈ not_v a
 not-told {a} {x} p = told (only-test a _) (only-test a _) (isn't (eq_test x _)) (λ h s. omega ints) (λ h r. r (omega ints))
 
 -- ---- exact: the verdict is the one that the pairs call for
@@ -77,13 +77,13 @@ module _ {a b : Interval} (h : a.min ≤ℤ a.max) (k : b.min ≤ℤ b.max) wher
     low-high : P a.min b.max → Some P a b
     low-high p = record { left = a.min; right = b.max; left_in = low-in h; right-in = high-in k; at = p }
 
-  pub less-exact : Verdict ◌<ℤ◌ (λ x y. y ≤ℤ x) a b (lessV a b)
+  pub less-exact : Verdict ◌<ℤ◌ (λ x y. y ≤ℤ x) a b (less_v a b)
   less-exact = settled (lt_test _ _) (le_test _ _) (λ t x y p q. omega ints) (λ t x y p q. omega ints) high-low low-high
 
-  pub less-or-equal-exact : Verdict ◌≤ℤ◌ (λ x y. y <ℤ x) a b (lessOrEqualV a b)
+  pub less-or-equal-exact : Verdict ◌≤ℤ◌ (λ x y. y <ℤ x) a b (less_or_equal_v a b)
   less-or-equal-exact = settled (le_test _ _) (lt_test _ _) (λ t x y p q. omega ints) (λ t x y p q. omega ints) high-low low-high
 
-  pub equals-exact : Verdict ◌≡◌ ◌≢◌ a b (equalsV a b)
+  pub equals-exact : Verdict ◌≡◌ ◌≢◌ a b (equals_v a b)
   equals-exact = settled (both (le_test _ _) (le_test _ _)) (either (lt_test _ _) (lt_test _ _)) (λ t x y p q. omega ints) apart differ meet
     where
       apart : (a.max <ℤ b.min) ⊎ (b.max <ℤ a.min) → All ◌≢◌ a b

@@ -12,6 +12,6 @@ abbrev pub told : IntervalAnswer → Answer Interval
 told (Is v) = is v
 told (Refused r) = refused (number_of r)
 
-abbrev pub pairTold : PairAnswer → Answer Pair
-pairTold (pair.Is p) = is p
-pairTold (pair.Refused r) = refused (number_of r)
+abbrev pub pair_told : PairAnswer → Answer Pair
+pair_told (pair.Is p) = is p
+pair_told (pair.Refused r) = refused (number_of r)

@@ -36,21 +36,21 @@ abbrev pub single : ℤ → Interval
 single n = n ⋯ n
 
 -- i is the one number n
-abbrev pub isOnly : Interval → ℤ → Bool
-isOnly i n = (i.min ≟ n) && (i.max ≟ n)
+abbrev pub is_only : Interval → ℤ → Bool
+is_only i n = (i.min ≟ n) && (i.max ≟ n)
 
-abbrev pub isBottom : Width → Interval → Bool
-isBottom w i = (i.min ≟ greatest w) && (i.max ≟ least w)
+abbrev pub is_bottom : Width → Interval → Bool
+is_bottom w i = (i.min ≟ greatest w) && (i.max ≟ least w)
 
 abbrev pub empty? : Interval → Bool
 empty? i = i.max <? i.min
 
-abbrev pub inWidth? : Width → Interval → Bool
-inWidth? w i = fits? w i.min && fits? w i.max
+abbrev pub in_width? : Width → Interval → Bool
+in_width? w i = fits? w i.min && fits? w i.max
 
 -- min at most max and both numbers of the width, or bottom: the domain
 unfoldable pub canonical? : Width → Interval → Bool
-canonical? w i = pick (empty? i) (isBottom w i) (inWidth? w i)
+canonical? w i = pick (empty? i) (is_bottom w i) (in_width? w i)
 
 -- an interval that has a number, all of whose numbers fit
 pub record Proper (w : Width) (i : Interval) : Type 0 where

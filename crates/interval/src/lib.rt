@@ -5,11 +5,11 @@ ghost use Rattle.whole.specs.Choice.{pick};
 ghost use Rattle.whole.specs.Test.{◌≟◌};
 ghost use Rattle.whole.specs.Range.{least, greatest};
 ghost use Rattle.whole.specs.Sized.{width_of};
-ghost use Rattle.interval.specs.Set.{◌⋯◌, ◌∈?◌, single, isOnly, isBottom, empty?};
+ghost use Rattle.interval.specs.Set.{◌⋯◌, ◌∈?◌, single, is_only, is_bottom, empty?};
 ghost use Rattle.interval.specs.Answer.{told};
-ghost use Rattle.interval.specs.Mended.{filled, narrowed, remSingle, verdict};
-ghost use Rattle.interval.specs.Ends.{greatestOf};
-ghost use Rattle.interval.specs.Ported.{singleton, ofSign, sideSign, sign_of};
+ghost use Rattle.interval.specs.Mended.{filled, narrowed, rem_single, verdict};
+ghost use Rattle.interval.specs.Ends.{greatest_of};
+ghost use Rattle.interval.specs.Ported.{singleton, of_sign, side_sign, sign_of};
 
 use refusal::Refusal;
 use sign::Sign;
@@ -87,7 +87,7 @@ impl Interval {
 
     // The numbers of a sign, and 0 with those of NonZero.
     pub fn of_sign(s: Sign) -> Interval
-        ensures { result ≡ ofSign s }
+        ensures { result ≡ of_sign s }
     {
         match s {
             Sign::Top => Interval::TOP,
@@ -114,14 +114,14 @@ impl Interval {
 
     // Whether it is bottom, the pair [MAX, MIN].
     pub fn is_bottom(self) -> bool
-        ensures { result ≡ isBottom w64 self }
+        ensures { result ≡ is_bottom w64 self }
     {
         self.min == MAX && self.max == MIN
     }
 
     // Whether n is its one number.
     pub fn is_only(self, n: i64) -> bool
-        ensures { result ≡ isOnly self n }
+        ensures { result ≡ is_only self n }
     {
         self.min == n && self.max == n
     }
@@ -143,7 +143,7 @@ impl Interval {
 
 // The sign of a pair that is neither bottom nor [0, 0].
 fn side_of(a: Interval) -> Sign
-    ensures { result ≡ sideSign a }
+    ensures { result ≡ side_sign a }
 {
     if a.max < 0 {
         return Sign::Negative;
@@ -190,7 +190,7 @@ fn verdict(every: bool, none: bool) -> Interval
 
 // The greater of two numbers that fit.
 fn greatest_of(x: Exact, y: Exact) -> Exact
-    ensures { result ≡ greatestOf x y }
+    ensures { result ≡ greatest_of x y }
 {
     match x {
         Exact::Is(a) => match y {
@@ -247,7 +247,7 @@ fn narrowed(size: Size, new: Interval, previous: Interval) -> Interval
 
 // The remainder of two numbers, refused where their quotient doesn't fit.
 fn single_rem(size: Size, x: i64, y: i64) -> IntervalAnswer
-    ensures { told result ≡ remSingle (width_of size) x y }
+    ensures { told result ≡ rem_single (width_of size) x y }
 {
     match size.quotient(x, y) {
         Exact::Is(_) => {

@@ -72,14 +72,14 @@ pub fn greater(a: Interval, b: Interval) -> IntervalAnswer
 
 // Whether the left number is at most the right one in every pair, or in none.
 pub fn less_or_equal(a: Interval, b: Interval) -> IntervalAnswer
-    ensures { told result ≡ mended.lessOrEqual w64 a b }
+    ensures { told result ≡ mended.less_or_equal w64 a b }
 {
     sized::less_or_equal(Size::B64, a, b)
 }
 
 // Whether the left number is at least the right one in every pair, or in none.
 pub fn greater_or_equal(a: Interval, b: Interval) -> IntervalAnswer
-    ensures { told result ≡ mended.greaterOrEqual w64 a b }
+    ensures { told result ≡ mended.greater_or_equal w64 a b }
 {
     sized::greater_or_equal(Size::B64, a, b)
 }

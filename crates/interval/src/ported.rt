@@ -3,12 +3,12 @@ ghost use Rattle.std.specs.Prelude.{◌≡◌, true, false, ◌&&◌, ◌||◌, 
 ghost use Rattle.std.specs.Int.{w64};
 ghost use Rattle.whole.specs.Choice.{pick};
 ghost use Rattle.whole.specs.Test.{◌<?◌, ◌≟◌};
-ghost use Rattle.whole.specs.Whole.{maxℤ, min4, max4};
+ghost use Rattle.whole.specs.Whole.{max_ℤ, min4, max4};
 ghost use Rattle.whole.specs.Range.{least, greatest};
 ghost use Rattle.whole.specs.Exact.{exactly};
-ghost use Rattle.interval.specs.Set.{◌⋯◌, single, isOnly, isBottom};
-ghost use Rattle.interval.specs.Answer.{told, pairTold};
-ghost use Rattle.interval.specs.Mended.{andV, orV, notV, narrowed};
+ghost use Rattle.interval.specs.Set.{◌⋯◌, single, is_only, is_bottom};
+ghost use Rattle.interval.specs.Answer.{told, pair_told};
+ghost use Rattle.interval.specs.Mended.{and_v, or_v, not_v, narrowed};
 ghost use Rattle.interval.specs.Mended as mended;
 ghost use Rattle.interval.specs.Ported as ported;
 
@@ -25,34 +25,34 @@ use whole::{
 // ---- logic
 
 fn both_only(a: Interval, b: Interval, n: i64) -> bool
-    ensures { result ≡ (isOnly a n && isOnly b n) }
+    ensures { result ≡ (is_only a n && is_only b n) }
 {
     if a.is_only(n) { b.is_only(n) } else { false }
 }
 
 fn one_only(a: Interval, b: Interval, n: i64) -> bool
-    ensures { result ≡ (isOnly a n || isOnly b n) }
+    ensures { result ≡ (is_only a n || is_only b n) }
 {
     if a.is_only(n) { true } else { b.is_only(n) }
 }
 
 // 1 if both are 1 alone, 0 if one is 0 alone, else both.
 pub fn logical_and(a: Interval, b: Interval) -> Interval
-    ensures { result ≡ andV a b }
+    ensures { result ≡ and_v a b }
 {
     verdict(both_only(a, b, 1), one_only(a, b, 0))
 }
 
 // 1 if one is 1 alone, 0 if both are 0 alone, else both.
 pub fn logical_or(a: Interval, b: Interval) -> Interval
-    ensures { result ≡ orV a b }
+    ensures { result ≡ or_v a b }
 {
     verdict(one_only(a, b, 1), both_only(a, b, 0))
 }
 
 // The other of 0 and 1, or both.
 pub fn logical_not(a: Interval) -> Interval
-    ensures { result ≡ notV a }
+    ensures { result ≡ not_v a }
 {
     verdict(a.is_only(0), a.is_only(1))
 }
@@ -61,13 +61,13 @@ pub fn logical_not(a: Interval) -> Interval
 
 // Whether a side is bottom.
 fn one_bottom(a: Interval, b: Interval) -> bool
-    ensures { result ≡ (isBottom w64 a || isBottom w64 b) }
+    ensures { result ≡ (is_bottom w64 a || is_bottom w64 b) }
 {
     if a.is_bottom() { true } else { b.is_bottom() }
 }
 
 fn same_one(a: Single, b: Single) -> Order
-    ensures { result ≡ ported.sameOne a b }
+    ensures { result ≡ ported.same_one a b }
 {
     match a {
         Single::One(x) => match b {
@@ -80,7 +80,7 @@ fn same_one(a: Single, b: Single) -> Order
 
 // Less or Greater if every pair is so, Equal for equal single numbers, else None.
 pub fn strict_cmp(a: Interval, b: Interval) -> Order
-    ensures { result ≡ ported.strictCmp a b }
+    ensures { result ≡ ported.strict_cmp a b }
 {
     if one_bottom(a, b) {
         return Order::None;
@@ -96,7 +96,7 @@ pub fn strict_cmp(a: Interval, b: Interval) -> Order
 
 // As strict_cmp, but ranges that touch come first as Less, then as Greater.
 pub fn weak_cmp(a: Interval, b: Interval) -> Order
-    ensures { result ≡ ported.weakCmp a b }
+    ensures { result ≡ ported.weak_cmp a b }
 {
     if one_bottom(a, b) {
         return Order::None;
@@ -112,7 +112,7 @@ pub fn weak_cmp(a: Interval, b: Interval) -> Order
 
 // Whether the numbers are equal, by strict_cmp.
 pub fn equals(a: Interval, b: Interval) -> Interval
-    ensures { result ≡ ported.equalBy (ported.strictCmp a b) }
+    ensures { result ≡ ported.equal_by (ported.strict_cmp a b) }
 {
     match strict_cmp(a, b) {
         Order::Less => FALSE_RANGE,
@@ -126,7 +126,7 @@ pub fn equals(a: Interval, b: Interval) -> Interval
 
 // The numbers for which equality may hold.
 pub fn may_equal_when(a: Interval, b: Interval) -> Interval
-    ensures { result ≡ ported.mayEqualWhen a b }
+    ensures { result ≡ ported.may_equal_when a b }
 {
     if one_bottom(a, b) {
         return Interval::BOTTOM;
@@ -161,7 +161,7 @@ fn after(x: i64) -> i64
 
 fn less_left(a: Interval, b: Interval) -> Interval
     requires { (b.max ≟ least w64) ≡ false }
-    ensures { result ≡ ported.lessLeft a b }
+    ensures { result ≡ ported.less_left a b }
 {
     let left = Interval {
         min: a.min,
@@ -172,7 +172,7 @@ fn less_left(a: Interval, b: Interval) -> Interval
 
 fn less_right(a: Interval, b: Interval) -> Interval
     requires { (a.min ≟ greatest w64) ≡ false }
-    ensures { result ≡ ported.lessRight a b }
+    ensures { result ≡ ported.less_right a b }
 {
     let right = Interval {
         min: max_of(after(a.min), b.min),
@@ -183,7 +183,7 @@ fn less_right(a: Interval, b: Interval) -> Interval
 
 // The numbers of each side for which `<` may hold.
 pub fn maybe_less_when(a: Interval, b: Interval) -> PairAnswer
-    ensures { pairTold result ≡ ported.maybeLessWhen a b }
+    ensures { pair_told result ≡ ported.maybe_less_when a b }
 {
     if apart(a, b) {
         return PairAnswer::Is(Pair {
@@ -204,7 +204,7 @@ pub fn maybe_less_when(a: Interval, b: Interval) -> PairAnswer
 }
 
 fn le_left(a: Interval, b: Interval) -> Interval
-    ensures { result ≡ ported.leLeft a b }
+    ensures { result ≡ ported.le_left a b }
 {
     let left = Interval {
         min: a.min,
@@ -214,7 +214,7 @@ fn le_left(a: Interval, b: Interval) -> Interval
 }
 
 fn le_right(a: Interval, b: Interval) -> Interval
-    ensures { result ≡ ported.leRight a b }
+    ensures { result ≡ ported.le_right a b }
 {
     let right = Interval {
         min: max_of(a.min, b.min),
@@ -225,7 +225,7 @@ fn le_right(a: Interval, b: Interval) -> Interval
 
 // The numbers of each side for which `<=` may hold.
 pub fn maybe_le_when(a: Interval, b: Interval) -> Pair
-    ensures { result ≡ ported.maybeLeWhen a b }
+    ensures { result ≡ ported.maybe_le_when a b }
 {
     if apart(a, b) {
         return Pair {
@@ -248,7 +248,7 @@ fn same_number(x: i64, y: i64) -> bool
 }
 
 fn same(a: Interval, b: Interval) -> bool
-    ensures { result ≡ ported.sameEnds a b }
+    ensures { result ≡ ported.same_ends a b }
 {
     if same_number(a.min, b.min) {
         same_number(a.max, b.max)
@@ -336,7 +336,7 @@ pub fn narrow(new: Interval, previous: Interval) -> Interval
 // ---- arithmetic
 
 fn add_min(x: i64, y: i64) -> i64
-    ensures { result ≡ ported.addMin x y }
+    ensures { result ≡ ported.add_min x y }
 {
     if x == MIN {
         MIN
@@ -348,7 +348,7 @@ fn add_min(x: i64, y: i64) -> i64
 }
 
 fn add_max(x: i64, y: i64) -> i64
-    ensures { result ≡ ported.addMax x y }
+    ensures { result ≡ ported.add_max x y }
 {
     if x == MAX {
         MAX
@@ -438,13 +438,13 @@ pub fn mul(a: Interval, b: Interval) -> Interval
 
 // The greater absolute value of two ends.
 fn largest(low: i64, high: i64) -> Exact
-    ensures { result ≡ exactly w64 (maxℤ (pos (nat_abs low)) (pos (nat_abs high))) }
+    ensures { result ≡ exactly w64 (max_ℤ (pos (nat_abs low)) (pos (nat_abs high))) }
 {
     greatest_of(exact_of(magnitude(low)), exact_of(magnitude(high)))
 }
 
 fn rem_by(order: Order, low: i64, high: i64) -> Interval
-    ensures { result ≡ ported.remBy order low high }
+    ensures { result ≡ ported.rem_by order low high }
 {
     match order {
         Order::Less => Interval { min: low, max: 0 },
@@ -460,13 +460,13 @@ fn rem_by(order: Order, low: i64, high: i64) -> Interval
 // The remainders of a's numbers by divisors of a magnitude up to m.
 fn rem_up_to(a: Interval, m: i64) -> Interval
     requires { (m <? pos 0) ≡ false }
-    ensures { result ≡ ported.remBy (ported.weakCmp a (single (pos 0))) (neg_ℤ m +ℤ pos 1) (m -ℤ pos 1) }
+    ensures { result ≡ ported.rem_by (ported.weak_cmp a (single (pos 0))) (neg_ℤ m +ℤ pos 1) (m -ℤ pos 1) }
 {
     rem_by(weak_cmp(a, FALSE_RANGE), -m + 1, m - 1)
 }
 
 fn rem_large(a: Interval, b: Interval) -> IntervalAnswer
-    ensures { told result ≡ ported.remLarge a (ported.largest b) }
+    ensures { told result ≡ ported.rem_large a (ported.largest b) }
 {
     match largest(b.min, b.max) {
         Exact::Is(m) => IntervalAnswer::Is(rem_up_to(a, m)),
@@ -475,7 +475,7 @@ fn rem_large(a: Interval, b: Interval) -> IntervalAnswer
 }
 
 fn rem_nothing(a: Interval, b: Interval) -> bool
-    ensures { result ≡ ((isBottom w64 a || isBottom w64 b) || isOnly b (pos 0)) }
+    ensures { result ≡ ((is_bottom w64 a || is_bottom w64 b) || is_only b (pos 0)) }
 {
     if one_bottom(a, b) { true } else { b.is_only(0) }
 }

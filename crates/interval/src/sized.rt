@@ -1,13 +1,13 @@
 // The mended operations at a size of numbers: right by the sets. What is not canonical, a number outside the width among it, is refused by 1 first of all.
 ghost use Rattle.std.specs.Prelude.{◌≡◌, true, false, ◌&&◌, ◌||◌, pos, neg_ℤ, ◌-ℤ◌};
 ghost use Rattle.std.specs.Int.Signed.{quot_z};
-ghost use Rattle.whole.specs.Whole.{maxℤ};
+ghost use Rattle.whole.specs.Whole.{max_ℤ};
 ghost use Rattle.whole.specs.Test.{◌≤?◌, ◌<?◌, ◌≟◌};
 ghost use Rattle.whole.specs.Sized.{width_of};
-ghost use Rattle.interval.specs.Set.{top, bottom, isOnly, isBottom, empty?, inWidth?, canonical?};
+ghost use Rattle.interval.specs.Set.{top, bottom, is_only, is_bottom, empty?, in_width?, canonical?};
 ghost use Rattle.interval.specs.Answer.{told};
 ghost use Rattle.interval.specs.Full.{full?, unmade};
-ghost use Rattle.interval.specs.Ends.{range_of, leastOf, greatestOf, heldRange};
+ghost use Rattle.interval.specs.Ends.{range_of, least_of, greatest_of, held_range};
 ghost use Rattle.interval.specs.Mended as mended;
 
 use super::{
@@ -46,7 +46,7 @@ fn has_ends(a: Interval, low: i64, high: i64) -> bool
 }
 
 pub fn is_bottom(size: Size, a: Interval) -> bool
-    ensures { result ≡ isBottom (width_of size) a }
+    ensures { result ≡ is_bottom (width_of size) a }
 {
     has_ends(a, size.greatest(), size.least())
 }
@@ -55,7 +55,7 @@ pub fn is_bottom(size: Size, a: Interval) -> bool
 
 // Whether both ends are numbers of the width.
 fn in_width(size: Size, a: Interval) -> bool
-    ensures { result ≡ inWidth? (width_of size) a }
+    ensures { result ≡ in_width? (width_of size) a }
 {
     size.fits(a.min) && size.fits(a.max)
 }
@@ -174,7 +174,7 @@ pub fn sub(size: Size, a: Interval, b: Interval) -> IntervalAnswer
 
 // The lesser of two numbers that fit.
 fn least_of(x: Exact, y: Exact) -> Exact
-    ensures { result ≡ leastOf x y }
+    ensures { result ≡ least_of x y }
 {
     match x {
         Exact::Is(a) => match y {
@@ -187,7 +187,7 @@ fn least_of(x: Exact, y: Exact) -> Exact
 
 // The range of four corners, refused if one of them doesn't fit.
 fn corner_range(p: Exact, q: Exact, r: Exact, s: Exact) -> IntervalAnswer
-    ensures { told result ≡ range_of (leastOf (leastOf p q) (leastOf r s)) (greatestOf (greatestOf p q) (greatestOf r s)) }
+    ensures { told result ≡ range_of (least_of (least_of p q) (least_of r s)) (greatest_of (greatest_of p q) (greatest_of r s)) }
 {
     range_of(
         least_of(least_of(p, q), least_of(r, s)),
@@ -203,7 +203,7 @@ fn range_in(size: Size, v: Interval) -> IntervalAnswer
 
 // A range of 64 bits, refused if an end is no number of the width.
 fn held(size: Size, r: IntervalAnswer) -> IntervalAnswer
-    ensures { told result ≡ heldRange (width_of size) (told r) }
+    ensures { told result ≡ held_range (width_of size) (told r) }
 {
     match r {
         IntervalAnswer::Is(v) => match size {
@@ -242,7 +242,7 @@ fn unbounded(size: Size, a: Interval, b: Interval) -> bool
 
 // The range of the four quotients of ends.
 fn corner_quotients(size: Size, a: Interval, b: Interval) -> IntervalAnswer
-    ensures { told result ≡ mended.ranged (width_of size) (mended.lowCorner quot_z a b) (mended.highCorner quot_z a b) }
+    ensures { told result ≡ mended.ranged (width_of size) (mended.low_corner quot_z a b) (mended.high_corner quot_z a b) }
 {
     let corners = corner_range(
         exact_quotient(a.min, b.min),
@@ -254,7 +254,7 @@ fn corner_quotients(size: Size, a: Interval, b: Interval) -> IntervalAnswer
 }
 
 fn quotients(size: Size, a: Interval, b: Interval) -> IntervalAnswer
-    ensures { told result ≡ mended.quotientsOf (width_of size) a b }
+    ensures { told result ≡ mended.quotients_of (width_of size) a b }
 {
     if b.is_only(0) {
         return IntervalAnswer::Is(bottom(size));
@@ -275,7 +275,7 @@ pub fn div(size: Size, a: Interval, b: Interval) -> IntervalAnswer
 // M - 1, for M the greatest magnitude from low to high. It fits also where M is 2^63.
 fn reach(low: i64, high: i64) -> i64
     requires { (high <? low) ≡ false }
-    ensures { result ≡ maxℤ (neg_ℤ low) high -ℤ pos 1 }
+    ensures { result ≡ max_ℤ (neg_ℤ low) high -ℤ pos 1 }
 {
     let next = saturating_add(low, 1);
     max_of(-next, saturating_add(high, -1))
@@ -283,7 +283,7 @@ fn reach(low: i64, high: i64) -> i64
 
 // The remainders of a's numbers, where all remainders lie from low to high.
 fn remainders(a: Interval, low: i64, high: i64) -> Interval
-    ensures { result ≡ mended.remWithin a low high }
+    ensures { result ≡ mended.rem_within a low high }
 {
     if a.is_only(0) {
         return FALSE_RANGE;
@@ -303,7 +303,7 @@ fn remainders(a: Interval, low: i64, high: i64) -> Interval
 // The range of remainders, by the greatest magnitude in b.
 fn rem_range(a: Interval, b: Interval) -> Interval
     requires { empty? b ≡ false }
-    ensures { result ≡ mended.remRange a (mended.magnitude b) }
+    ensures { result ≡ mended.rem_range a (mended.magnitude b) }
 {
     let high = reach(b.min, b.max);
     remainders(a, -high, high)
@@ -311,7 +311,7 @@ fn rem_range(a: Interval, b: Interval) -> Interval
 
 fn rem_of(size: Size, a: Interval, b: Interval) -> IntervalAnswer
     requires { empty? b ≡ false }
-    ensures { told result ≡ mended.remOf (width_of size) a b }
+    ensures { told result ≡ mended.rem_of (width_of size) a b }
 {
     if b.is_only(0) {
         return IntervalAnswer::Is(bottom(size));
@@ -369,14 +369,14 @@ pub fn greater(size: Size, a: Interval, b: Interval) -> IntervalAnswer
 
 // Whether the left number is at most the right one in every pair, or in none.
 pub fn less_or_equal(size: Size, a: Interval, b: Interval) -> IntervalAnswer
-    ensures { told result ≡ mended.lessOrEqual (width_of size) a b }
+    ensures { told result ≡ mended.less_or_equal (width_of size) a b }
 {
     lenient(size, a, b, verdict(a.max <= b.min, b.max < a.min))
 }
 
 // Whether the left number is at least the right one in every pair, or in none.
 pub fn greater_or_equal(size: Size, a: Interval, b: Interval) -> IntervalAnswer
-    ensures { told result ≡ mended.greaterOrEqual (width_of size) a b }
+    ensures { told result ≡ mended.greater_or_equal (width_of size) a b }
 {
     less_or_equal(size, b, a)
 }

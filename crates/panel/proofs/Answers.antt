@@ -10,39 +10,39 @@ use lib.IntN.{ℤ}
 use lib.ListN.{length, take}
 use lib.Seq.{sets}
 use Rattle.whole.specs.Choice.{pick}
-use Rattle.sheet.specs.Got.{Got, got, refused, fine, verdictOf}
+use Rattle.sheet.specs.Got.{Got, got, refused, fine, verdict_of}
 use Rattle.sheet.specs.Step.{Step}
-use Rattle.sheet.specs.Number.{readNumber}
-use Rattle.sheet.specs.Sheet.{parse, stepsFrom, stepsIn, flat, steps_of}
+use Rattle.sheet.specs.Number.{read_number}
+use Rattle.sheet.specs.Sheet.{parse, steps_from, steps_in, flat, steps_of}
 use Rattle.sheet.specs.Answer as sheet
 use Rattle.sheet.proofs.Parts.{steps-length, length-flat}
 use Rattle.sheet.proofs.Plans.{steps-count}
 use Rattle.sheet.proofs.Stepped.{got_of}
 use Rattle.sheet.proofs.Answered.{Reads, reads, steps-flat, stored-first}
-use Rattle.panel.specs.Run.{Rules, actionsOf, suits?, runSheet}
-use Rattle.panel.specs.Answer.{nothing, refusedBy, refusedAt, result_of, ranOn, running}
+use Rattle.panel.specs.Run.{Rules, actions_of, suits?, run_sheet}
+use Rattle.panel.specs.Answer.{nothing, refused_by, refused_at, result_of, ran_on, running}
 
 -- ---- the three answers of a sheet that was read
 module _ (rules : Rules) (steps : List Step) (ins room : List ℤ) where
-  pub ran-short : length room < length steps → ranOn rules steps ins room ≡ nothing (refusedBy 16)
-  unfolding ranOn
+  pub ran-short : length room < length steps → ran_on rules steps ins room ≡ nothing (refused_by 16)
+  unfolding ran_on
   ran-short h = rw (lt-leb (length steps) (length room) h) refl
 
-  pub ran-unsuited : length steps ≤ length room → suits? (actionsOf steps) ins ≡ false → ranOn rules steps ins room ≡ nothing (refusedBy 15)
-  unfolding ranOn
+  pub ran-unsuited : length steps ≤ length room → suits? (actions_of steps) ins ≡ false → ran_on rules steps ins room ≡ nothing (refused_by 15)
+  unfolding ran_on
   ran-unsuited h s = rw (le-leb (length steps) (length room) h, s) refl
 
-  pub ran-suited : length steps ≤ length room → suits? (actionsOf steps) ins ≡ true → ranOn rules steps ins room ≡ result_of (runSheet rules ins steps)
-  unfolding ranOn
+  pub ran-suited : length steps ≤ length room → suits? (actions_of steps) ins ≡ true → ran_on rules steps ins room ≡ result_of (run_sheet rules ins steps)
+  unfolding ran_on
   ran-suited h s = rw (le-leb (length steps) (length room) h, s) refl
 
 -- ---- reading first
 module _ (rules : Rules) (s : List ℕ) (ins room : List ℤ) where
-  pub runs-read : (steps : List Step) (p : ℕ) → parse s ≡ got steps p → running rules s ins room ≡ ranOn rules steps ins room
+  pub runs-read : (steps : List Step) (p : ℕ) → parse s ≡ got steps p → running rules s ins room ≡ ran_on rules steps ins room
   unfolding running
   runs-read steps p e = rw e refl
 
-  pub runs-refused : (n p : ℕ) → parse s ≡ refused n p → running rules s ins room ≡ nothing (refusedAt n p)
+  pub runs-refused : (n p : ℕ) → parse s ≡ refused n p → running rules s ins room ≡ nothing (refused_at n p)
   unfolding running
   runs-refused n p e = rw e refl
 
@@ -52,13 +52,13 @@ four-each l n h = omega (arith, steps-count l)
 -- a sheet that was read has at most 256 steps
 pub parse-few : (s : List ℕ) (xs : List Step) (p : ℕ) → parse s ≡ got xs p → length xs ≤ 256
 unfolding parse
-parse-few s xs p h = let g = got_of (readNumber s 0) _ xs p h in by-test g.0 g.1.0 (ltb 256 g.0) refl g.1.1.1
+parse-few s xs p h = let g = got_of (read_number s 0) _ xs p h in by-test g.0 g.1.0 (ltb 256 g.0) refl g.1.1.1
   where
-    by-test : (n q : ℕ) (t : Bool) → ltb 256 n ≡ t → pick t (refused 10 0) (stepsFrom n s 0 q) ≡ got xs p → length xs ≤ 256
+    by-test : (n q : ℕ) (t : Bool) → ltb 256 n ≡ t → pick t (refused 10 0) (steps_from n s 0 q) ≡ got xs p → length xs ≤ 256
     by-test n q true e h = let z : ◌≡◌ {A = ℕ} 0 1 = cc in absurd (omega arith)
     by-test n q false e h =
-        let v : verdictOf (stepsFrom n s 0 q) ≡ fine = ap verdictOf h in
-        let l : length xs ≡ n = sym (ap (λ g. length (stepsIn g)) h) ∙ steps-length n s 0 q v in
+        let v : verdict_of (steps_from n s 0 q) ≡ fine = ap verdict_of h in
+        let l : length xs ≡ n = sym (ap (λ g. length (steps_in g)) h) ∙ steps-length n s 0 q v in
         omega (arith, ltb-false 256 n e)
 
 -- the steps that were read, as the first of 1,024 numbers
@@ -78,26 +78,26 @@ listed s room after n h e =
     record { steps = r.steps; end = r.end; parsed = r.parsed; few = omega (arith, parse-few s r.steps r.end r.parsed, r.count); numbers = t; back = ap steps_of t ∙ steps-flat r.steps }
 
 -- a refusal of reading is that of the sheet; room for 256 steps is never short
-pub read_at : (s : List ℕ) (room : List ℤ) (n p : ℕ) → sheet.refusedAt n p ≡ sheet.answer (sheet.reading s) room → parse s ≡ refused n p
+pub read_at : (s : List ℕ) (room : List ℤ) (n p : ℕ) → sheet.refused_at n p ≡ sheet.answer (sheet.reading s) room → parse s ≡ refused n p
 unfolding sheet.reading
 read_at s room n p h = by-parse (parse s) h
   where
-    by-room : (xs : List Step) (q : ℕ) (t : Bool) → sheet.refusedAt n p ≡ pick t (sheet.done (length xs)) (sheet.refusedBy 16) → got xs q ≡ refused n p
+    by-room : (xs : List Step) (q : ℕ) (t : Bool) → sheet.refused_at n p ≡ pick t (sheet.done (length xs)) (sheet.refused_by 16) → got xs q ≡ refused n p
     by-room xs q true h = let z : ◌≡◌ {A = ℕ} 0 1 = cc in absurd (omega arith)
     by-room xs q false h = let z : ◌≡◌ {A = ℕ} 0 1 = cc in absurd (omega arith)
 
-    by-parse : (g : Got (List Step)) → sheet.refusedAt n p ≡ sheet.answer (sheet.plan_of g) room → g ≡ refused n p
+    by-parse : (g : Got (List Step)) → sheet.refused_at n p ≡ sheet.answer (sheet.plan_of g) room → g ≡ refused n p
     by-parse (got xs q) h = by-room xs q (leb (length (flat xs)) (length room)) h
     by-parse (refused m q) h = cc
 
-pub never-short : (s : List ℕ) (room : List ℤ) (n : ℕ) → 1024 ≤ length room → sheet.refusedBy n ≡ sheet.answer (sheet.reading s) room → ⊥
+pub never-short : (s : List ℕ) (room : List ℤ) (n : ℕ) → 1024 ≤ length room → sheet.refused_by n ≡ sheet.answer (sheet.reading s) room → ⊥
 unfolding sheet.reading
 never-short s room n l h = by-parse (parse s) refl h
   where
-    by-room : (xs : List Step) (q : ℕ) (t : Bool) → parse s ≡ got xs q → leb (length (flat xs)) (length room) ≡ t → sheet.refusedBy n ≡ pick t (sheet.done (length xs)) (sheet.refusedBy 16) → ⊥
+    by-room : (xs : List Step) (q : ℕ) (t : Bool) → parse s ≡ got xs q → leb (length (flat xs)) (length room) ≡ t → sheet.refused_by n ≡ pick t (sheet.done (length xs)) (sheet.refused_by 16) → ⊥
     by-room xs q true e k h = let z : ◌≡◌ {A = ℕ} 0 1 = cc in omega arith
     by-room xs q false e k h = omega (arith, leb-false (length (flat xs)) (length room) k, length-flat xs, parse-few s xs q e)
 
-    by-parse : (g : Got (List Step)) → parse s ≡ g → sheet.refusedBy n ≡ sheet.answer (sheet.plan_of g) room → ⊥
+    by-parse : (g : Got (List Step)) → parse s ≡ g → sheet.refused_by n ≡ sheet.answer (sheet.plan_of g) room → ⊥
     by-parse (got xs q) e h = by-room xs q (leb (length (flat xs)) (length room)) e refl h
     by-parse (refused m q) e h = let z : ◌≡◌ {A = ℕ} 0 1 = cc in omega arith

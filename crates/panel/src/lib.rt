@@ -2,10 +2,10 @@
 ghost use Rattle.std.specs.Prelude.{◌≡◌, ◌+◌, ◌*◌, ◌<◌, ◌≤◌, pos, length, take, drop, get_or};
 ghost use Rattle.std.proofs.lemmas.List.Edits.{sets};
 ghost use Rattle.whole.specs.Sized.{width_of};
-ghost use Rattle.step.specs.Run.{runOp};
+ghost use Rattle.step.specs.Run.{run_op};
 ghost use Rattle.sheet.specs.Sheet.{steps_of};
-ghost use Rattle.panel.specs.Run.{runStep, takes, taken?, actionsOf, suits?, runSheet, actionAt};
-ghost use Rattle.panel.specs.Answer.{runTold, ranOn, result_of, Result, RanAt, Ran};
+ghost use Rattle.panel.specs.Run.{run_step, takes, taken?, actions_of, suits?, run_sheet, action_at};
+ghost use Rattle.panel.specs.Answer.{run_told, ran_on, result_of, Result, RanAt, Ran};
 
 use refusal::Refusal;
 use sheet::ReadAnswer;
@@ -47,7 +47,7 @@ fn input_at(inputs: &[i64], j: usize) -> i64
 
 // What a step gives, after k steps and with the inputs from j on.
 fn outcome(size: Size, act: Action, inputs: &[i64], j: usize, room: &[i64], k: usize) -> Outcome
-    ensures { result ≡ runStep (runOp (width_of size)) (drop j inputs.now) (take k room.now) act }
+    ensures { result ≡ run_step (run_op (width_of size)) (drop j inputs.now) (take k room.now) act }
 {
     match act {
         Action::Input(_, _) => Outcome::Gives(input_at(inputs, j)),
@@ -90,7 +90,7 @@ fn taken(act: Action, inputs: &[i64], j: usize) -> bool
 // The step at place k.
 fn action_at(steps: &[i64], n: usize, k: usize) -> Action
     requires { (n ≤ 256) × (length steps.now ≡ n * 4) × (k < n) }
-    ensures { result ≡ actionAt steps.now k }
+    ensures { result ≡ action_at steps.now k }
 {
     let i = k * 4;
     step::kind::action_of(steps[i], steps[i + 1], steps[i + 2], steps[i + 3])
@@ -99,7 +99,7 @@ fn action_at(steps: &[i64], n: usize, k: usize) -> Action
 // Whether the inputs are as many as the n steps take, each in its range.
 fn suits(steps: &[i64], n: usize, inputs: &[i64]) -> bool
     requires { (n ≤ 256) × (length steps.now ≡ n * 4) }
-    ensures { result ≡ suits? (actionsOf (steps_of steps.now)) inputs.now }
+    ensures { result ≡ suits? (actions_of (steps_of steps.now)) inputs.now }
 {
     let mut k: usize = 0;
     let mut j: usize = 0;
@@ -117,7 +117,7 @@ fn suits(steps: &[i64], n: usize, inputs: &[i64]) -> bool
 // Runs n steps, and puts their numbers into the room.
 fn run_steps(size: Size, steps: &[i64], n: usize, inputs: &[i64], room: &mut [i64]) -> RunAnswer
     requires { (n ≤ 256) × (length steps.now ≡ n * 4) × (n ≤ length room.old) }
-    ensures { (runTold result ≡ (result_of (runSheet (runOp (width_of size)) inputs.now (steps_of steps.now))).told) × (room.new ≡ sets room.old 0 (result_of (runSheet (runOp (width_of size)) inputs.now (steps_of steps.now))).numbers) }
+    ensures { (run_told result ≡ (result_of (run_sheet (run_op (width_of size)) inputs.now (steps_of steps.now))).told) × (room.new ≡ sets room.old 0 (result_of (run_sheet (run_op (width_of size)) inputs.now (steps_of steps.now))).numbers) }
 {
     let mut k: usize = 0;
     let mut j: usize = 0;
@@ -140,7 +140,7 @@ fn run_steps(size: Size, steps: &[i64], n: usize, inputs: &[i64], room: &mut [i6
 // Runs n steps that were read: 16, then 15, then the steps.
 fn run_listed(size: Size, steps: &[i64], n: usize, inputs: &[i64], room: &mut [i64]) -> RunAnswer
     requires { (n ≤ 256) × (length steps.now ≡ n * 4) }
-    ensures { (runTold result ≡ (ranOn (runOp (width_of size)) (steps_of steps.now) inputs.now room.old).told) × (room.new ≡ sets room.old 0 (ranOn (runOp (width_of size)) (steps_of steps.now) inputs.now room.old).numbers) }
+    ensures { (run_told result ≡ (ran_on (run_op (width_of size)) (steps_of steps.now) inputs.now room.old).told) × (room.new ≡ sets room.old 0 (ran_on (run_op (width_of size)) (steps_of steps.now) inputs.now room.old).numbers) }
 {
     if room.len() < n {
         return RunAnswer::Refused(Refusal::NoRoom);

@@ -4,7 +4,7 @@ use Prim.Native.String.{String}
 use Rattle.whole.specs.Choice.{pick}
 use Rattle.sign.specs.declared.Sign.TheVariants as sign
 use Rattle.text.specs.Ascii.{ascii}
-use Rattle.text.specs.Word.{firstCode, secondCode}
+use Rattle.text.specs.Word.{first_code, second_code}
 use Rattle.question.specs.Taken.{codes}
 use Rattle.question.specs.declared.names.Name.{Name}
 use Rattle.question.specs.declared.names.Name.TheVariants.{At, Congruence, Interval, Mended, Number, Sheet, Sign, Transfer, Binary, Unary, Check, Read, Run, Write, Add, Bottom, Disjoint, Div, Equals, From, Greater, GreaterOrEqual, Join, Less, LessOrEqual, LogicalAnd, LogicalEq, LogicalNot, LogicalOr, MayEqualWhen, MaybeLeWhen, MaybeLessWhen, Meet, Mul, Narrow, Neg, OfInterval, OfNumber, OfSign, PartialCmp, Rem, Singleton, Smaller, StrictCmp, Sub, Top, WeakCmp, Widen, True, False, Signed, Unknown}
@@ -78,35 +78,35 @@ rows =
     row "NonPos" (Signed sign.NonPos) ∷
     []
 
-unfoldable pub nameIn : List Row → ℕ → ℕ → Name
-nameIn [] first second = Unknown
-nameIn (r ∷ rs) first second = pick (codes r.text first second) r.value (nameIn rs first second)
+unfoldable pub name_in : List Row → ℕ → ℕ → Name
+name_in [] first second = Unknown
+name_in (r ∷ rs) first second = pick (codes r.text first second) r.value (name_in rs first second)
 
-unfoldable pub nameOf : ℕ → ℕ → Name
-nameOf = nameIn rows
+unfoldable pub name_of : ℕ → ℕ → Name
+name_of = name_in rows
 
 -- the columns of the table
-unfoldable pub firstsOf : List Row → List ℕ
-firstsOf [] = []
-firstsOf (r ∷ rs) = firstCode (ascii r.text) ∷ firstsOf rs
+unfoldable pub firsts_of : List Row → List ℕ
+firsts_of [] = []
+firsts_of (r ∷ rs) = first_code (ascii r.text) ∷ firsts_of rs
 
-unfoldable pub secondsOf : List Row → List ℕ
-secondsOf [] = []
-secondsOf (r ∷ rs) = secondCode (ascii r.text) ∷ secondsOf rs
+unfoldable pub seconds_of : List Row → List ℕ
+seconds_of [] = []
+seconds_of (r ∷ rs) = second_code (ascii r.text) ∷ seconds_of rs
 
 unfoldable pub values_of : List Row → List Name
 values_of [] = []
 values_of (r ∷ rs) = r.value ∷ values_of rs
 
 unfoldable pub firsts : List ℕ
-firsts = firstsOf rows
+firsts = firsts_of rows
 
 unfoldable pub seconds : List ℕ
-seconds = secondsOf rows
+seconds = seconds_of rows
 
 unfoldable pub values : List Name
 values = values_of rows
 
 -- whether these are the numbers of the i-th name
-unfoldable pub hasCodes : (i first second : ℕ) → Bool
-hasCodes i first second = eqb second (get_or seconds i 0) && eqb first (get_or firsts i 0)
+unfoldable pub has_codes : (i first second : ℕ) → Bool
+has_codes i first second = eqb second (get_or seconds i 0) && eqb first (get_or firsts i 0)

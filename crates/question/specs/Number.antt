@@ -11,18 +11,18 @@ use Rattle.question.specs.declared.answer.Answer.{Answer}
 use Rattle.question.specs.declared.answer.Answer.TheVariants.{Number, Refused, NotUnderstood}
 use Rattle.question.specs.declared.take.Pair.{Pair}
 use Rattle.question.specs.declared.take.Pair.TheVariants.{Are, Not}
-use Rattle.question.specs.Taken.{named, nameAfter, nextAfter, twoAfter}
+use Rattle.question.specs.Taken.{named, name_after, next_after, two_after}
 
 -- a number that fits, or 2
-abbrev pub exactAnswer : Exact → Answer
-exactAnswer (exact.Is n) = Number n
-exactAnswer exact.DoesNotFit = Refused DoesNotFit
+abbrev pub exact_answer : Exact → Answer
+exact_answer (exact.Is n) = Number n
+exact_answer exact.DoesNotFit = Refused DoesNotFit
 
-abbrev pub ofTwo : (ℕ → ℕ → ℕ) → Pair → Answer
-ofTwo f (Are a b) = exactAnswer (exactly w64 (pos (f (nat_abs a) (nat_abs b))))
-ofTwo f Not = NotUnderstood
+abbrev pub of_two : (ℕ → ℕ → ℕ) → Pair → Answer
+of_two f (Are a b) = exact_answer (exactly w64 (pos (f (nat_abs a) (nat_abs b))))
+of_two f Not = NotUnderstood
 
-unfoldable pub numberAnswer : List ℕ → ℕ → Answer
-numberAnswer s at =
-    pick (named "gcd" (nameAfter s at)) (ofTwo gcd (twoAfter s (nextAfter s at)))
-    (pick (named "lcm" (nameAfter s at)) (ofTwo lcm (twoAfter s (nextAfter s at))) NotUnderstood)
+unfoldable pub number_answer : List ℕ → ℕ → Answer
+number_answer s at =
+    pick (named "gcd" (name_after s at)) (of_two gcd (two_after s (next_after s at)))
+    (pick (named "lcm" (name_after s at)) (of_two lcm (two_after s (next_after s at))) NotUnderstood)

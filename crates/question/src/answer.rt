@@ -1,6 +1,6 @@
 // What a question is answered, of every family.
 ghost use Rattle.std.specs.Prelude.{◌≡◌};
-ghost use Rattle.question.specs.Number.{exactAnswer};
+ghost use Rattle.question.specs.Number.{exact_answer};
 
 use congruence::{Congruence, CongruenceAnswer, OrderAnswer, SingleAnswer, TruthAnswer};
 use interval::{Interval, IntervalAnswer, Pair, PairAnswer, Single};
@@ -36,7 +36,7 @@ pub(crate) fn sign_told(a: SignAnswer) -> Answer {
 }
 
 pub(crate) fn exact_told(e: Exact) -> Answer
-    ensures { result ≡ exactAnswer e }
+    ensures { result ≡ exact_answer e }
 {
     match e {
         Exact::Is(n) => Answer::Number(n),

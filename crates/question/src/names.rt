@@ -1,7 +1,7 @@
 // The names that questions are made of, in one table, with one look-up. A name of at most sixteen bytes is two numbers (text::word);
 // tools/codes prints them.
 ghost use Rattle.std.specs.Prelude.{◌≡◌, get_or};
-ghost use Rattle.question.specs.Names.{firsts, seconds, values, hasCodes, nameOf};
+ghost use Rattle.question.specs.Names.{firsts, seconds, values, has_codes, name_of};
 ghost use Rattle.question.specs.declared.names.Name.TheVariants.{Unknown};
 
 use sign::Sign;
@@ -277,7 +277,7 @@ fn name_of(i: usize) -> Name
 
 // Whether the i-th name has these two numbers.
 fn is_row(i: usize, first: u64, second: u64) -> bool
-    ensures { result ≡ hasCodes i first second }
+    ensures { result ≡ has_codes i first second }
 {
     if second == second_of(i) {
         first == first_of(i)
@@ -288,7 +288,7 @@ fn is_row(i: usize, first: u64, second: u64) -> bool
 
 // The name of these two numbers.
 fn look_up(first: u64, second: u64) -> Name
-    ensures { result ≡ nameOf first second }
+    ensures { result ≡ name_of first second }
 {
     let mut i: usize = 0;
     while i < COUNT {
@@ -302,7 +302,7 @@ fn look_up(first: u64, second: u64) -> Name
 
 // The name that a word is.
 pub fn named(w: Word) -> Name
-    ensures { result ≡ nameOf w.first w.second }
+    ensures { result ≡ name_of w.first w.second }
 {
     look_up(w.first, w.second)
 }

@@ -1,14 +1,14 @@
 // The family `number`: the common divisor and the common multiple of two numbers.
 ghost use Rattle.std.specs.Prelude.{◌≡◌};
 ghost use Rattle.whole.specs.Divides as divides;
-ghost use Rattle.question.specs.Taken.{twoAfter};
-ghost use Rattle.question.specs.Number.{ofTwo, numberAnswer};
+ghost use Rattle.question.specs.Taken.{two_after};
+ghost use Rattle.question.specs.Number.{of_two, number_answer};
 
 use crate::answer::{Answer, exact_told};
 use crate::take::{Pair, two};
 
 fn gcd(operands: Pair) -> Answer
-    ensures { result ≡ ofTwo divides.gcd operands }
+    ensures { result ≡ of_two divides.gcd operands }
 {
     match operands {
         Pair::Are(a, b) => exact_told(whole::gcd(a, b)),
@@ -17,7 +17,7 @@ fn gcd(operands: Pair) -> Answer
 }
 
 fn lcm(operands: Pair) -> Answer
-    ensures { result ≡ ofTwo divides.lcm operands }
+    ensures { result ≡ of_two divides.lcm operands }
 {
     match operands {
         Pair::Are(a, b) => exact_told(whole::lcm(a, b)),
@@ -34,7 +34,7 @@ const SHORT: u64 = 0;
 
 // The answer to what stands after the family's name.
 pub fn answer(line: &[u8], at: usize) -> Answer
-    ensures { result ≡ numberAnswer line.now at }
+    ensures { result ≡ number_answer line.now at }
 {
     let op = crate::take::name(line, at);
     let first = op.first;

@@ -1,14 +1,14 @@
 // Operands of a question: each stands after one space.
 ghost use Rattle.std.specs.Prelude.{◌≡◌};
-ghost use Rattle.text.specs.Word.{firstCode, secondCode};
-ghost use Rattle.question.specs.Taken.{numberAfter, oneAfter, twoAfter, nameAfter, nextAfter};
+ghost use Rattle.text.specs.Word.{first_code, second_code};
+ghost use Rattle.question.specs.Taken.{number_after, one_after, two_after, name_after, next_after};
 
 use text::decimal::Got;
 use text::word::Word;
 
 // A number, and the place after it.
 pub fn number(line: &[u8], at: usize) -> Got
-    ensures { result ≡ numberAfter line.now at }
+    ensures { result ≡ number_after line.now at }
 {
     if line.len() <= at {
         return Got::Nothing;
@@ -28,7 +28,7 @@ pub enum Single {
 }
 
 pub(crate) fn one(line: &[u8], at: usize) -> Single
-    ensures { result ≡ oneAfter line.now at }
+    ensures { result ≡ one_after line.now at }
 {
     let Got::Number(a, p) = number(line, at) else {
         return Single::Not;
@@ -48,7 +48,7 @@ pub enum Pair {
 }
 
 pub(crate) fn two(line: &[u8], at: usize) -> Pair
-    ensures { result ≡ twoAfter line.now at }
+    ensures { result ≡ two_after line.now at }
 {
     let Got::Number(a, p) = number(line, at) else {
         return Pair::Not;
@@ -107,7 +107,7 @@ pub(crate) fn up_to_four(line: &[u8], at: usize) -> Operands {
 
 // A name, as text::word has it; both its numbers are 0 if there is none.
 pub fn name(line: &[u8], at: usize) -> Word
-    ensures { (result.next ≡ nextAfter line.now at) × (result.first ≡ firstCode (nameAfter line.now at)) × (result.second ≡ secondCode (nameAfter line.now at)) }
+    ensures { (result.next ≡ next_after line.now at) × (result.first ≡ first_code (name_after line.now at)) × (result.second ≡ second_code (name_after line.now at)) }
 {
     if line.len() <= at {
         return nameless(at);

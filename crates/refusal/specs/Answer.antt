@@ -8,6 +8,6 @@ pub data Answer (A : Type 0) : Type 0 where
 -- of a call over a sheet: done, with a count; or refused by a number, at a step, at a byte, or with no place
 pub data Told : Type 0 where
   done : ℕ → Told
-  atStep : (number step : ℕ) → Told
+  at_step : (number step : ℕ) → Told
   at_byte : (number byte : ℕ) → Told
-  refusedBy : ℕ → Told
+  refused_by : ℕ → Told

@@ -3,7 +3,7 @@ ghost use Rattle.std.specs.Prelude.{◌≤◌, ◌<◌, length};
 ghost use Rattle.sheet.specs.Sheet.{parse};
 ghost use Rattle.say.specs.Said.{size, Says, Prints};
 ghost use Rattle.say.specs.Texts.{numbered};
-ghost use Rattle.run_sheet.specs.Text.{stepLine, runText};
+ghost use Rattle.run_sheet.specs.Text.{step_line, run_text};
 
 use panel::RunAnswer;
 
@@ -12,7 +12,7 @@ pub const ROOM: usize = 8192;
 
 // The line of step k, which takes at most 25 bytes.
 fn line(out: &mut [u8], made: usize, k: usize, n: i64) -> usize
-    ensures { Says (stepLine k n) out.old made out.new result × (k < 256 → size (stepLine k n) ≤ 25) }
+    ensures { Says (step_line k n) out.old made out.new result × (k < 256 → size (step_line k n) ≤ 25) }
 {
     let a = say::natural(out, made, k as u64);
     let b = say::word(out, a, b" ");
@@ -22,7 +22,7 @@ fn line(out: &mut [u8], made: usize, k: usize, n: i64) -> usize
 
 // The lines of the steps' numbers.
 fn lines(out: &mut [u8], made: usize, numbers: &[i64]) -> usize
-    ensures { Says (numbered stepLine 0 numbers.now) out.old made out.new result × (length numbers.now ≤ 256 → size (numbered stepLine 0 numbers.now) ≤ 6400) }
+    ensures { Says (numbered step_line 0 numbers.now) out.old made out.new result × (length numbers.now ≤ 256 → size (numbered step_line 0 numbers.now) ≤ 6400) }
 {
     let mut e = made;
     let mut k: usize = 0;
@@ -35,7 +35,7 @@ fn lines(out: &mut [u8], made: usize, numbers: &[i64]) -> usize
 
 // What the run of the bytes on the inputs prints: 256 numbers are room for any run.
 fn run_text(bytes: &[u8], inputs: &[i64], out: &mut [u8], made: usize) -> usize
-    ensures { Says (runText (parse bytes.now) inputs.now) out.old made out.new result × (size (runText (parse bytes.now) inputs.now) ≤ 8192) }
+    ensures { Says (run_text (parse bytes.now) inputs.now) out.old made out.new result × (size (run_text (parse bytes.now) inputs.now) ≤ 8192) }
 {
     let mut room = [0i64; 256];
     match panel::run(bytes, inputs, &mut room) {
@@ -63,7 +63,7 @@ fn run_text(bytes: &[u8], inputs: &[i64], out: &mut [u8], made: usize) -> usize
 
 // Puts what the run of the bytes on the inputs prints, the whole of it, and answers how many bytes that are.
 pub fn run(bytes: &[u8], inputs: &[i64], out: &mut [u8; ROOM]) -> usize
-    ensures { Prints (runText (parse bytes.now) inputs.now) out.old out.new result }
+    ensures { Prints (run_text (parse bytes.now) inputs.now) out.old out.new result }
 {
     run_text(bytes, inputs, out, 0)
 }

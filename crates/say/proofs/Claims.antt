@@ -6,7 +6,7 @@ use native.Mathlib.Omega.{arith}
 use lib.ListN.{length, set, drop, length-append}
 use lib.Seq.{sets, length-sets, sets-eq}
 use borrow.Author.Tests.{le-leb}
-use Rattle.text.specs.Room.{putBytes}
+use Rattle.text.specs.Room.{put_bytes}
 use Rattle.say.specs.Said.{next, output, place, joined, Says, Prints}
 
 sets-append : (t u l : List ℕ) (at : ℕ) → sets l at (t ++ u) ≡ sets (sets l at t) (at + length t) u
@@ -17,8 +17,8 @@ sets-append (x ∷ t) u l at =
 
 -- a text that fits is put, and the next stands after it
 module _ (out : List ℕ) (at : ℕ) (t : List ℕ) (h : at + length t ≤ length out) where
-  put : putBytes out at t ≡ sets out at t
-  unfolding putBytes
+  put : put_bytes out at t ≡ sets out at t
+  unfolding put_bytes
   put = rw (le-leb (at + length t) (length out) h)
 
   after : next out at t ≡ at + length t

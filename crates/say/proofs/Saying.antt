@@ -7,7 +7,7 @@ use lib.ListN.{length}
 use Rattle.whole.specs.Choice.{pick}
 use Rattle.text.specs.declared.Put.{Put}
 use Rattle.text.specs.declared.Put.TheVariants.{Next, NoRoom}
-use Rattle.text.specs.Room.{fitsAt, putBytes, putAnswer}
+use Rattle.text.specs.Room.{fits_at, put_bytes, put_answer}
 use Rattle.say.specs.Said.{next, place_of, output, place, Says}
 
 by-test : (t : Bool) (e at : ℕ) → place_of (pick t (Next e) NoRoom) at ≡ pick t e at
@@ -15,11 +15,11 @@ by-test true e at = refl
 by-test false e at = refl
 
 -- what `after` answers to a text that was put
-pub put_next : (out : List ℕ) (at : ℕ) (t : List ℕ) → place_of (putAnswer out at t) at ≡ next out at t
-unfolding putAnswer next
-put_next out at t = by-test (fitsAt out at t) (at + length t) at
+pub put_next : (out : List ℕ) (at : ℕ) (t : List ℕ) → place_of (put_answer out at t) at ≡ next out at t
+unfolding put_answer next
+put_next out at t = by-test (fits_at out at t) (at + length t) at
 
-pub says-one : (out : List ℕ) (at : ℕ) (t left : List ℕ) (p : Put) (end : ℕ) → p ≡ putAnswer out at t → left ≡ putBytes out at t → end ≡ place_of p at → Says (t ∷ []) out at left end
+pub says-one : (out : List ℕ) (at : ℕ) (t left : List ℕ) (p : Put) (end : ℕ) → p ≡ put_answer out at t → left ≡ put_bytes out at t → end ≡ place_of p at → Says (t ∷ []) out at left end
 unfolding output place
 says-one out at t left p end e f g = record { leaves = f; ends = g ∙ ap (λ (q : Put). place_of q at) e ∙ put_next out at t }
 
@@ -30,12 +30,12 @@ nothing out at = record { leaves = refl; ends = refl }
 output-append : (ts us : List (List ℕ)) (out : List ℕ) (at : ℕ) → output (ts ++ us) out at ≡ output us (output ts out at) (place ts out at)
 unfolding output place
 output-append [] us out at = refl
-output-append (t ∷ ts) us out at = output-append ts us (putBytes out at t) (next out at t)
+output-append (t ∷ ts) us out at = output-append ts us (put_bytes out at t) (next out at t)
 
 place-append : (ts us : List (List ℕ)) (out : List ℕ) (at : ℕ) → place (ts ++ us) out at ≡ place us (output ts out at) (place ts out at)
 unfolding output place
 place-append [] us out at = refl
-place-append (t ∷ ts) us out at = place-append ts us (putBytes out at t) (next out at t)
+place-append (t ∷ ts) us out at = place-append ts us (put_bytes out at t) (next out at t)
 
 -- texts, and then more of them
 infixr 5 ◌and-then◌

@@ -6,18 +6,18 @@ use Rattle.sign.specs.declared.Sign.{Sign}
 use Rattle.sign.specs.declared.Sign.TheVariants.{Top, Bottom, Negative, Zero, Positive, NonNeg, NonZero, NonPos}
 use Rattle.text.specs.Ascii.{ascii}
 
-abbrev pub orderName : Order → List ℕ
-orderName Less = ascii "Less"
-orderName Equal = ascii "Equal"
-orderName Greater = ascii "Greater"
-orderName None = ascii "None"
+abbrev pub order_name : Order → List ℕ
+order_name Less = ascii "Less"
+order_name Equal = ascii "Equal"
+order_name Greater = ascii "Greater"
+order_name None = ascii "None"
 
-abbrev pub signName : Sign → List ℕ
-signName Top = ascii "Top"
-signName Bottom = ascii "Bottom"
-signName Negative = ascii "Negative"
-signName Zero = ascii "Zero"
-signName Positive = ascii "Positive"
-signName NonNeg = ascii "NonNeg"
-signName NonZero = ascii "NonZero"
-signName NonPos = ascii "NonPos"
+abbrev pub sign_name : Sign → List ℕ
+sign_name Top = ascii "Top"
+sign_name Bottom = ascii "Bottom"
+sign_name Negative = ascii "Negative"
+sign_name Zero = ascii "Zero"
+sign_name Positive = ascii "Positive"
+sign_name NonNeg = ascii "NonNeg"
+sign_name NonZero = ascii "NonZero"
+sign_name NonPos = ascii "NonPos"

@@ -4,11 +4,11 @@ use Rattle.std.proofs.lemmas.List.Edits.{sets}
 use Rattle.whole.specs.Choice.{pick}
 use Rattle.text.specs.declared.Put.{Put}
 use Rattle.text.specs.declared.Put.TheVariants.{Next, NoRoom}
-use Rattle.text.specs.Room.{fitsAt, putBytes}
+use Rattle.text.specs.Room.{fits_at, put_bytes}
 
 -- the place after a text that is put at a place
 unfoldable pub next : List ℕ → ℕ → List ℕ → ℕ
-next out at t = pick (fitsAt out at t) (at + length t) at
+next out at t = pick (fits_at out at t) (at + length t) at
 
 abbrev pub place_of : Put → ℕ → ℕ
 place_of (Next e) at = e
@@ -17,11 +17,11 @@ place_of NoRoom at = at
 -- the output that the texts leave, and the place after them
 unfoldable pub output : List (List ℕ) → List ℕ → ℕ → List ℕ
 output [] out at = out
-output (t ∷ ts) out at = output ts (putBytes out at t) (next out at t)
+output (t ∷ ts) out at = output ts (put_bytes out at t) (next out at t)
 
 unfoldable pub place : List (List ℕ) → List ℕ → ℕ → ℕ
 place [] out at = at
-place (t ∷ ts) out at = place ts (putBytes out at t) (next out at t)
+place (t ∷ ts) out at = place ts (put_bytes out at t) (next out at t)
 
 -- the texts as one
 unfoldable pub joined : List (List ℕ) → List ℕ

@@ -4,16 +4,16 @@ use Rattle.std.specs.Int.{Width, w64}
 use Rattle.interval.specs.declared.Interval.{Interval}
 use Rattle.text.specs.Ascii.{ascii}
 use Rattle.text.specs.Decimal.{decimal, digits}
-use Rattle.text.specs.End.{endText}
+use Rattle.text.specs.End.{end_text}
 
-abbrev pub rangeText : Width → ℤ → ℤ → List (List ℕ)
-rangeText w low high = ascii "[" ∷ (endText w low ∷ (ascii ", " ∷ (endText w high ∷ (ascii "]" ∷ []))))
+abbrev pub range_text : Width → ℤ → ℤ → List (List ℕ)
+range_text w low high = ascii "[" ∷ (end_text w low ∷ (ascii ", " ∷ (end_text w high ∷ (ascii "]" ∷ []))))
 
-abbrev pub pairText : Interval → Interval → List (List ℕ)
-pairText i j = rangeText w64 i.min i.max ++ (ascii " " ∷ rangeText w64 j.min j.max)
+abbrev pub pair_text : Interval → Interval → List (List ℕ)
+pair_text i j = range_text w64 i.min i.max ++ (ascii " " ∷ range_text w64 j.min j.max)
 
-abbrev pub spacingText : ℤ → ℤ → List (List ℕ)
-spacingText constant modulus = decimal constant ∷ (ascii " mod " ∷ (decimal modulus ∷ []))
+abbrev pub spacing_text : ℤ → ℤ → List (List ℕ)
+spacing_text constant modulus = decimal constant ∷ (ascii " mod " ∷ (decimal modulus ∷ []))
 
 -- numbers, each after a space
 unfoldable pub spaced : List ℤ → List (List ℕ)
@@ -26,18 +26,18 @@ numbered text k [] = []
 numbered text k (x ∷ xs) = text k x ++ numbered text (suc k) xs
 
 -- a refusal's number, alone or after a place
-abbrev pub refusalText : ℕ → List (List ℕ)
-refusalText number = ascii "refused by " ∷ (digits number ∷ [])
+abbrev pub refusal_text : ℕ → List (List ℕ)
+refusal_text number = ascii "refused by " ∷ (digits number ∷ [])
 
-abbrev pub placeText : (place number : ℕ) → List (List ℕ)
-placeText place number = digits place ∷ (ascii " by " ∷ (digits number ∷ []))
+abbrev pub place_text : (place number : ℕ) → List (List ℕ)
+place_text place number = digits place ∷ (ascii " by " ∷ (digits number ∷ []))
 
 -- lines: words before a place and a refusal's number, and words before a count
-abbrev pub placeLine : List ℕ → (place number : ℕ) → List (List ℕ)
-placeLine words place number = words ∷ (placeText place number ++ (ascii "\n" ∷ []))
+abbrev pub place_line : List ℕ → (place number : ℕ) → List (List ℕ)
+place_line words place number = words ∷ (place_text place number ++ (ascii "\n" ∷ []))
 
-abbrev pub countLine : List ℕ → ℕ → List (List ℕ)
-countLine words n = words ∷ (digits n ∷ (ascii "\n" ∷ []))
+abbrev pub count_line : List ℕ → ℕ → List (List ℕ)
+count_line words n = words ∷ (digits n ∷ (ascii "\n" ∷ []))
 
-abbrev pub notUnderstood : List (List ℕ)
-notUnderstood = ascii "not understood" ∷ []
+abbrev pub not_understood : List (List ℕ)
+not_understood = ascii "not understood" ∷ []

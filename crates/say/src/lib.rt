@@ -6,11 +6,11 @@ ghost use Rattle.whole.specs.Sized.{width_of};
 ghost use Rattle.text.specs.Ascii.{ascii};
 ghost use Rattle.whole.specs.Choice.{pick};
 ghost use Rattle.text.specs.Decimal.{decimal, digits};
-ghost use Rattle.text.specs.End.{endText};
-ghost use Rattle.text.specs.Hex.{hexText};
-ghost use Rattle.say.specs.Names.{orderName, signName};
+ghost use Rattle.text.specs.End.{end_text};
+ghost use Rattle.text.specs.Hex.{hex_text};
+ghost use Rattle.say.specs.Names.{order_name, sign_name};
 ghost use Rattle.say.specs.Said.{place_of, Says};
-ghost use Rattle.say.specs.Texts.{rangeText, pairText, spacingText, spaced, refusalText, placeText, placeLine, countLine, notUnderstood};
+ghost use Rattle.say.specs.Texts.{range_text, pair_text, spacing_text, spaced, refusal_text, place_text, place_line, count_line, not_understood};
 
 use congruence::Congruence;
 use interval::{Interval, Pair};
@@ -68,13 +68,13 @@ pub fn natural(out: &mut [u8], made: usize, n: u64) -> usize
 }
 
 pub fn not_understood(out: &mut [u8], made: usize) -> usize
-    ensures { Says notUnderstood out.old made out.new result }
+    ensures { Says not_understood out.old made out.new result }
 {
     word(out, made, b"not understood")
 }
 
 pub fn refused(out: &mut [u8], made: usize, why: Refusal) -> usize
-    ensures { Says (refusalText (number_of why)) out.old made out.new result }
+    ensures { Says (refusal_text (number_of why)) out.old made out.new result }
 {
     let e = word(out, made, b"refused by ");
     natural(out, e, why.number() as u64)
@@ -82,7 +82,7 @@ pub fn refused(out: &mut [u8], made: usize, why: Refusal) -> usize
 
 // A place and a refusal's number.
 pub fn place_by(out: &mut [u8], made: usize, place: usize, why: Refusal) -> usize
-    ensures { Says (placeText place (number_of why)) out.old made out.new result }
+    ensures { Says (place_text place (number_of why)) out.old made out.new result }
 {
     let p = natural(out, made, place as u64);
     let q = word(out, p, b" by ");
@@ -90,14 +90,14 @@ pub fn place_by(out: &mut [u8], made: usize, place: usize, why: Refusal) -> usiz
 }
 
 pub fn refused_at(out: &mut [u8], made: usize, place: usize, why: Refusal) -> usize
-    ensures { Says (ascii "refused at " ∷ placeText place (number_of why)) out.old made out.new result }
+    ensures { Says (ascii "refused at " ∷ place_text place (number_of why)) out.old made out.new result }
 {
     let e = word(out, made, b"refused at ");
     place_by(out, e, place, why)
 }
 
 pub fn stopped_at(out: &mut [u8], made: usize, step: usize, why: Refusal) -> usize
-    ensures { Says (ascii "stopped at " ∷ placeText step (number_of why)) out.old made out.new result }
+    ensures { Says (ascii "stopped at " ∷ place_text step (number_of why)) out.old made out.new result }
 {
     let e = word(out, made, b"stopped at ");
     place_by(out, e, step, why)
@@ -105,7 +105,7 @@ pub fn stopped_at(out: &mut [u8], made: usize, step: usize, why: Refusal) -> usi
 
 // A line: words, a place and a refusal's number.
 pub fn place_line(out: &mut [u8], made: usize, words: &[u8], place: usize, why: Refusal) -> usize
-    ensures { Says (placeLine words.now place (number_of why)) out.old made out.new result }
+    ensures { Says (place_line words.now place (number_of why)) out.old made out.new result }
 {
     let e = word(out, made, words);
     let f = place_by(out, e, place, why);
@@ -114,7 +114,7 @@ pub fn place_line(out: &mut [u8], made: usize, words: &[u8], place: usize, why: 
 
 // A line: words and a count.
 pub fn count_line(out: &mut [u8], made: usize, words: &[u8], n: usize) -> usize
-    ensures { Says (countLine words.now n) out.old made out.new result }
+    ensures { Says (count_line words.now n) out.old made out.new result }
 {
     let e = word(out, made, words);
     let f = natural(out, e, n as u64);
@@ -122,13 +122,13 @@ pub fn count_line(out: &mut [u8], made: usize, words: &[u8], n: usize) -> usize
 }
 
 fn range_end(out: &mut [u8], made: usize, size: Size, n: i64) -> usize
-    ensures { Says (endText (width_of size) n ∷ []) out.old made out.new result }
+    ensures { Says (end_text (width_of size) n ∷ []) out.old made out.new result }
 {
     after(text::end::put_end(out, made, size, n), made)
 }
 
 fn range(out: &mut [u8], made: usize, size: Size, low: i64, high: i64) -> usize
-    ensures { Says (rangeText (width_of size) low high) out.old made out.new result }
+    ensures { Says (range_text (width_of size) low high) out.old made out.new result }
 {
     let a = word(out, made, b"[");
     let b = range_end(out, a, size, low);
@@ -139,20 +139,20 @@ fn range(out: &mut [u8], made: usize, size: Size, low: i64, high: i64) -> usize
 
 // A range of numbers of a width.
 pub fn interval_at(out: &mut [u8], made: usize, size: Size, i: Interval) -> usize
-    ensures { Says (rangeText (width_of size) i.min i.max) out.old made out.new result }
+    ensures { Says (range_text (width_of size) i.min i.max) out.old made out.new result }
 {
     range(out, made, size, i.min, i.max)
 }
 
 pub fn interval(out: &mut [u8], made: usize, i: Interval) -> usize
-    ensures { Says (rangeText w64 i.min i.max) out.old made out.new result }
+    ensures { Says (range_text w64 i.min i.max) out.old made out.new result }
 {
     interval_at(out, made, Size::B64, i)
 }
 
 // Two intervals, with a space between them.
 pub fn intervals(out: &mut [u8], made: usize, p: Pair) -> usize
-    ensures { Says (pairText p.left p.right) out.old made out.new result }
+    ensures { Says (pair_text p.left p.right) out.old made out.new result }
 {
     let a = interval(out, made, p.left);
     let b = word(out, a, b" ");
@@ -160,7 +160,7 @@ pub fn intervals(out: &mut [u8], made: usize, p: Pair) -> usize
 }
 
 pub fn congruence(out: &mut [u8], made: usize, c: Congruence) -> usize
-    ensures { Says (spacingText c.constant c.modulus) out.old made out.new result }
+    ensures { Says (spacing_text c.constant c.modulus) out.old made out.new result }
 {
     let constant = c.constant;
     let modulus = c.modulus;
@@ -176,7 +176,7 @@ pub fn none(out: &mut [u8], made: usize) -> usize
 }
 
 pub fn order(out: &mut [u8], made: usize, o: Order) -> usize
-    ensures { Says (orderName o ∷ []) out.old made out.new result }
+    ensures { Says (order_name o ∷ []) out.old made out.new result }
 {
     match o {
         Order::Less => word(out, made, b"Less"),
@@ -187,7 +187,7 @@ pub fn order(out: &mut [u8], made: usize, o: Order) -> usize
 }
 
 pub fn sign(out: &mut [u8], made: usize, s: Sign) -> usize
-    ensures { Says (signName s ∷ []) out.old made out.new result }
+    ensures { Says (sign_name s ∷ []) out.old made out.new result }
 {
     match s {
         Sign::Top => word(out, made, b"Top"),
@@ -212,7 +212,7 @@ pub fn truth(out: &mut [u8], made: usize, t: bool) -> usize
 }
 
 pub fn bytes(out: &mut [u8], made: usize, b: &[u8]) -> usize
-    ensures { Says (hexText b.now ∷ []) out.old made out.new result }
+    ensures { Says (hex_text b.now ∷ []) out.old made out.new result }
 {
     after(text::hex::put_hex(out, made, b), made)
 }

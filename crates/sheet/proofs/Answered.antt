@@ -10,11 +10,11 @@ use lib.ListN.{length, take, drop}
 use lib.Seq.{sets, sets-eq, take-append_seam}
 use borrow.Author.Tests.{leb-true, ltb-false, eqb-true, le-leb, le-ltb, eq-eqb, leb-false}
 use Rattle.whole.specs.Choice.{pick}
-use Rattle.sheet.specs.Got.{Got, got, refused, Verdict, fine, wrong, verdictOf}
-use Rattle.sheet.specs.Number.{readNumber}
+use Rattle.sheet.specs.Got.{Got, got, refused, Verdict, fine, wrong, verdict_of}
+use Rattle.sheet.specs.Number.{read_number}
 use Rattle.sheet.specs.Step.{Step}
-use Rattle.sheet.specs.Sheet.{parse, stepsFault, bytes_of, flat, steps_of, stepsFrom}
-use Rattle.sheet.specs.Answer.{done, refusedAt, refusedBy, stop, answer, content, plan_of, reading, planFor, writing}
+use Rattle.sheet.specs.Sheet.{parse, steps_fault, bytes_of, flat, steps_of, steps_from}
+use Rattle.sheet.specs.Answer.{done, refused_at, refused_by, stop, answer, content, plan_of, reading, plan_for, writing}
 use Rattle.sheet.specs.Lent.{Words}
 use Rattle.sheet.proofs.Parts.{length-flat, steps-length}
 use Rattle.sheet.proofs.Plans.{steps-count}
@@ -62,7 +62,7 @@ pub reads : (s : List ℕ) (room : List ℤ) (n : ℕ) → answer (reading s) ro
 unfolding reading
 reads s room n h = by-parse (parse s) refl h
   where
-    by-room : (xs : List Step) (p : ℕ) (t : Bool) → parse s ≡ got xs p → leb (length (flat xs)) (length room) ≡ t → pick t (done (length xs)) (refusedBy 16) ≡ done n → Reads s room n
+    by-room : (xs : List Step) (p : ℕ) (t : Bool) → parse s ≡ got xs p → leb (length (flat xs)) (length room) ≡ t → pick t (done (length xs)) (refused_by 16) ≡ done n → Reads s room n
     by-room xs p true e l g = record {
       steps = xs;
       end = p;
@@ -84,15 +84,15 @@ reads-back s room xs p e h =
     (rw (e, b), rw (e, b))
 
 -- a refusal with a place is that of the bytes
-pub refuses : (s : List ℕ) (room : List ℤ) (r p : ℕ) → answer (reading s) room ≡ refusedAt r p → parse s ≡ refused r p
+pub refuses : (s : List ℕ) (room : List ℤ) (r p : ℕ) → answer (reading s) room ≡ refused_at r p → parse s ≡ refused r p
 unfolding reading
 refuses s room r p h = by-parse (parse s) refl h
   where
-    by-room : (xs : List Step) (t : Bool) → pick t (done (length xs)) (refusedBy 16) ≡ refusedAt r p → ⊥
+    by-room : (xs : List Step) (t : Bool) → pick t (done (length xs)) (refused_by 16) ≡ refused_at r p → ⊥
     by-room xs true g = let z : ◌≡◌ {A = ℕ} 0 1 = cc in omega arith
     by-room xs false g = let z : ◌≡◌ {A = ℕ} 0 1 = cc in omega arith
 
-    by-parse : (g : Got (List Step)) → parse s ≡ g → answer (plan_of g) room ≡ refusedAt r p → parse s ≡ refused r p
+    by-parse : (g : Got (List Step)) → parse s ≡ g → answer (plan_of g) room ≡ refused_at r p → parse s ≡ refused r p
     by-parse (got xs q) e g = absurd (by-room xs (leb (length (flat xs)) (length room)) g)
     by-parse (refused m q) e g =
         let em : m ≡ r = cc in
@@ -103,24 +103,24 @@ refuses s room r p h = by-parse (parse s) refl h
 pub parse-few : (s : List ℕ) (xs : List Step) (end : ℕ) → parse s ≡ got xs end → length xs ≤ 256
 unfolding parse
 parse-few s xs end h =
-    let g = got_of (readNumber s 0) _ xs end h in
+    let g = got_of (read_number s 0) _ xs end h in
     by_count g.0 g.1.0 (ltb 256 g.0) refl g.1.1.1
   where
-    by_count : (n p : ℕ) (t : Bool) → ltb 256 n ≡ t → pick t (refused 10 0) (stepsFrom n s 0 p) ≡ got xs end → length xs ≤ 256
+    by_count : (n p : ℕ) (t : Bool) → ltb 256 n ≡ t → pick t (refused 10 0) (steps_from n s 0 p) ≡ got xs end → length xs ≤ 256
     by_count n p true l e = let z : ◌≡◌ {A = ℕ} 0 1 = cc in absurd (omega arith)
     by_count n p false l e =
-        let c : length xs ≡ n = rw e at (steps-length n s 0 p (ap verdictOf e)) in
+        let c : length xs ≡ n = rw e at (steps-length n s 0 p (ap verdict_of e)) in
         omega (arith, ltb-false 256 n l)
 
-pub enough-room : (s : List ℕ) (room : List ℤ) → 1024 ≤ length room → (r : ℕ) → answer (reading s) room ≡ refusedBy r → ⊥
+pub enough-room : (s : List ℕ) (room : List ℤ) → 1024 ≤ length room → (r : ℕ) → answer (reading s) room ≡ refused_by r → ⊥
 unfolding reading
 enough-room s room long r h = by-parse (parse s) refl h
   where
-    by-room : (xs : List Step) (t : Bool) → length xs ≤ 256 → leb (length (flat xs)) (length room) ≡ t → pick t (done (length xs)) (refusedBy 16) ≡ refusedBy r → ⊥
+    by-room : (xs : List Step) (t : Bool) → length xs ≤ 256 → leb (length (flat xs)) (length room) ≡ t → pick t (done (length xs)) (refused_by 16) ≡ refused_by r → ⊥
     by-room xs true few l g = let z : ◌≡◌ {A = ℕ} 0 1 = cc in omega arith
     by-room xs false few l g = omega (arith, leb-false (length (flat xs)) (length room) l, length-flat xs)
 
-    by-parse : (g : Got (List Step)) → parse s ≡ g → answer (plan_of g) room ≡ refusedBy r → ⊥
+    by-parse : (g : Got (List Step)) → parse s ≡ g → answer (plan_of g) room ≡ refused_by r → ⊥
     by-parse (got xs p) e g = by-room xs (leb (length (flat xs)) (length room)) (parse-few s xs p e) refl g
     by-parse (refused m p) e g = let z : ◌≡◌ {A = ℕ} 0 1 = cc in omega arith
 
@@ -129,20 +129,20 @@ enough-room s room long r h = by-parse (parse s) refl h
 pub record Writes (l : List ℤ) (out : List ℕ) (n : ℕ) : Type 0 where
   pub even : length l % 4 ≡ 0
   pub few : length (steps_of l) ≤ 256
-  pub right : stepsFault 0 (steps_of l) ≡ fine
+  pub right : steps_fault 0 (steps_of l) ≡ fine
   pub count : n ≡ length (bytes_of (steps_of l))
   pub fits : length (bytes_of (steps_of l)) ≤ length out
   pub stored : content (writing l) out ≡ sets out 0 (bytes_of (steps_of l))
 
 pub writes : (l : List ℤ) (out : List ℕ) (n : ℕ) → answer (writing l) out ≡ done n → Writes l out n
 unfolding writing
-writes l out n h = by_tests (eqb (length l % 4) 0) (ltb 256 (length l / 4)) (stepsFault 0 (steps_of l)) (leb (length bs) (length out)) refl refl refl refl h
+writes l out n h = by_tests (eqb (length l % 4) 0) (ltb 256 (length l / 4)) (steps_fault 0 (steps_of l)) (leb (length bs) (length out)) refl refl refl refl h
   where
     bs : List ℕ
     bs = bytes_of (steps_of l)
 
-    by_tests : (t₁ t₂ : Bool) (v : Verdict) (t₃ : Bool) → eqb (length l % 4) 0 ≡ t₁ → ltb 256 (length l / 4) ≡ t₂ → stepsFault 0 (steps_of l) ≡ v → leb (length bs) (length out) ≡ t₃
-        → answer (pick t₁ (pick t₂ (stop (refusedAt 10 0)) (planFor v bs)) (stop (refusedBy 1))) out ≡ done n → Writes l out n
+    by_tests : (t₁ t₂ : Bool) (v : Verdict) (t₃ : Bool) → eqb (length l % 4) 0 ≡ t₁ → ltb 256 (length l / 4) ≡ t₂ → steps_fault 0 (steps_of l) ≡ v → leb (length bs) (length out) ≡ t₃
+        → answer (pick t₁ (pick t₂ (stop (refused_at 10 0)) (plan_for v bs)) (stop (refused_by 1))) out ≡ done n → Writes l out n
     by_tests true false fine true e₁ e₂ e₃ e₄ g = record {
       even = eqb-true (length l % 4) 0 e₁;
       few = omega (arith, steps-count l, ltb-false 256 (length l / 4) e₂);
@@ -156,7 +156,7 @@ writes l out n h = by_tests (eqb (length l % 4) 0) (ltb 256 (length l / 4)) (ste
     by_tests true true v t₃ e₁ e₂ e₃ e₄ g = let z : ◌≡◌ {A = ℕ} 0 1 = cc in absurd (omega arith)
     by_tests false t₂ v t₃ e₁ e₂ e₃ e₄ g = let z : ◌≡◌ {A = ℕ} 0 1 = cc in absurd (omega arith)
 
-pub writes-back : (l : List ℤ) (out : List ℕ) → length l % 4 ≡ 0 → length (steps_of l) ≤ 256 → stepsFault 0 (steps_of l) ≡ fine → length (bytes_of (steps_of l)) ≤ length out
+pub writes-back : (l : List ℤ) (out : List ℕ) → length l % 4 ≡ 0 → length (steps_of l) ≤ 256 → steps_fault 0 (steps_of l) ≡ fine → length (bytes_of (steps_of l)) ≤ length out
     → (answer (writing l) out ≡ done (length (bytes_of (steps_of l)))) × (content (writing l) out ≡ sets out 0 (bytes_of (steps_of l)))
 unfolding writing
 writes-back l out even few right h =

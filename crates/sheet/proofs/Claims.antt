@@ -11,16 +11,16 @@ use mir.Val.{SFits}
 use Rattle.refusal.proofs.Claims.{with_number, number-back}
 use Rattle.whole.specs.Test.{◌<?◌}
 use Rattle.sheet.specs.Got.{Got, got, refused}
-use Rattle.sheet.specs.Number.{readNumber, groupsFrom}
-use Rattle.sheet.specs.Signed.{foldSigned, unfoldNumber}
+use Rattle.sheet.specs.Number.{read_number, groups_from}
+use Rattle.sheet.specs.Signed.{fold_signed, unfold_number}
 use Rattle.sheet.specs.Operator.{fields_of}
 use Rattle.sheet.specs.Field.{field_at}
-use Rattle.sheet.specs.Step.{Step, step, fields_at, stepAt}
-use Rattle.sheet.specs.Sheet.{stepsFrom, parse, bytes_of, flat, steps_of}
+use Rattle.sheet.specs.Step.{Step, step, fields_at, step_at}
+use Rattle.sheet.specs.Sheet.{steps_from, parse, bytes_of, flat, steps_of}
 use Rattle.sheet.specs.Valid.{ValidSheet}
 use Rattle.sheet.specs.Lent.{Bytes, Words}
-use Rattle.sheet.specs.Found.{numberFound}
-use Rattle.sheet.specs.Answer.{Told, done, refusedAt, refusedBy, answer, content, reading, writing, readTold, writeTold}
+use Rattle.sheet.specs.Found.{number_found}
+use Rattle.sheet.specs.Answer.{Told, done, refused_at, refused_by, answer, content, reading, writing, read_told, write_told}
 use Rattle.sheet.specs.declared.number.NumberRead.{NumberRead}
 use Rattle.sheet.specs.declared.number.NumberRead.TheVariants.{Value, Refused as NoNumber}
 use Rattle.sheet.specs.declared.ReadAnswer.{ReadAnswer}
@@ -79,7 +79,7 @@ write-of-read s h room n a out fits =
     rw (taken_is s room n r) (rw (e, q.bytes) at w)
 
 -- Refused bytes are the writing of no steps.
-pub refused-is-unwritten : (s : List ℕ) (room : List ℤ) (r p : ℕ) → answer (reading s) room ≡ refusedAt r p
+pub refused-is-unwritten : (s : List ℕ) (room : List ℤ) (r p : ℕ) → answer (reading s) room ≡ refused_at r p
     → (l : List ℤ) → Words l → (out : List ℕ) (n : ℕ) → answer (writing l) out ≡ done n → written l out n ≡ s → ⊥
 refused-is-unwritten s room r p a l h out n b e =
     let x = refuses s room r p a in
@@ -116,10 +116,10 @@ read-valid s h xs end e =
     record { few = q.few; steps = valid-from 0 xs q.right }
 
 -- Every signed number of 64 bits is folded to a number below 2^64, and the other way round.
-pub signed-folds : (z : ℤ) → SFits w64 z → (foldSigned z < 2 ^ 64) × (unfoldNumber (foldSigned z) ≡ z)
+pub signed-folds : (z : ℤ) → SFits w64 z → (fold_signed z < 2 ^ 64) × (unfold_number (fold_signed z) ≡ z)
 signed-folds z h = (fold-below z h, unfold-fold z)
 
-pub number-unfolds : (n : ℕ) → n < 2 ^ 64 → SFits w64 (unfoldNumber n) × (foldSigned (unfoldNumber n) ≡ n)
+pub number-unfolds : (n : ℕ) → n < 2 ^ 64 → SFits w64 (unfold_number n) × (fold_signed (unfold_number n) ≡ n)
 number-unfolds n h = (unfold-fits n h, fold-unfold n)
 
 -- The sheet of number (14), read.
@@ -127,52 +127,52 @@ abbrev pub fourteen : List ℕ
 fourteen = 0x03 ∷ 0x01 ∷ 0x02 ∷ 0x08 ∷ 0x00 ∷ 0xF4 ∷ 0x03 ∷ 0x04 ∷ 0x00 ∷ 0x01 ∷ []
 
 pub fourteen-read : parse fourteen ≡ got (step (pos 1) (pos 1) (pos 4) (pos 0) ∷ step (pos 0) (pos 250) (pos 0) (pos 0) ∷ step (pos 4) (pos 0) (pos 1) (pos 0) ∷ []) 10
-unfolding parse stepsFrom stepAt fields_at fields_of field_at readNumber groupsFrom ◌<?◌
+unfolding parse steps_from step_at fields_at fields_of field_at read_number groups_from ◌<?◌
 fourteen-read = refl
 
 -- ---- answers are determined
 
 -- the answer of what is told
-abbrev readBack : Told → ReadAnswer
-readBack (done n) = Steps n
-readBack (refusedAt r p) = RefusedAt (with_number r) p
-readBack (refusedBy r) = Refused (with_number r)
+abbrev read_of_told : Told → ReadAnswer
+read_of_told (done n) = Steps n
+read_of_told (refused_at r p) = RefusedAt (with_number r) p
+read_of_told (refused_by r) = Refused (with_number r)
 
-abbrev writeBack : Told → WriteAnswer
-writeBack (done n) = Written n
-writeBack (refusedAt r p) = UnwrittenAt (with_number r) p
-writeBack (refusedBy r) = Unwritten (with_number r)
+abbrev write_back : Told → WriteAnswer
+write_back (done n) = Written n
+write_back (refused_at r p) = UnwrittenAt (with_number r) p
+write_back (refused_by r) = Unwritten (with_number r)
 
-abbrev numberBack : Got ℕ → NumberRead
-numberBack (got n p) = Value n p
-numberBack (refused r p) = NoNumber (with_number r) p
+abbrev number_back : Got ℕ → NumberRead
+number_back (got n p) = Value n p
+number_back (refused r p) = NoNumber (with_number r) p
 
-read_back : (r : ReadAnswer) → readBack (readTold r) ≡ r
+read_back : (r : ReadAnswer) → read_of_told (read_told r) ≡ r
 read_back (Steps n) = refl
 read_back (RefusedAt r p) = ap (λ q. RefusedAt q p) (number-back r)
 read_back (Refused r) = ap Refused (number-back r)
 
-write-back : (r : WriteAnswer) → writeBack (writeTold r) ≡ r
+write-back : (r : WriteAnswer) → write_back (write_told r) ≡ r
 write-back (Written n) = refl
 write-back (UnwrittenAt r p) = ap (λ q. UnwrittenAt q p) (number-back r)
 write-back (Unwritten r) = ap Unwritten (number-back r)
 
-number-read-back : (r : NumberRead) → numberBack (numberFound r) ≡ r
+number-read-back : (r : NumberRead) → number_back (number_found r) ≡ r
 number-read-back (Value n p) = refl
 number-read-back (NoNumber r p) = ap (λ q. NoNumber q p) (number-back r)
 
 -- Any two answers that reading's promise admits are equal, and the buffers with them.
 pub read-determined : (s : List ℕ) (room after after' : List ℤ) (r r' : ReadAnswer)
-    → (readTold r ≡ answer (reading s) room) × (after ≡ content (reading s) room) → (readTold r' ≡ answer (reading s) room) × (after' ≡ content (reading s) room)
+    → (read_told r ≡ answer (reading s) room) × (after ≡ content (reading s) room) → (read_told r' ≡ answer (reading s) room) × (after' ≡ content (reading s) room)
     → (r ≡ r') × (after ≡ after')
-read-determined s room after after' r r' h h' = (sym (read_back r) ∙ ap readBack (h.0 ∙ sym h'.0) ∙ read_back r', h.1 ∙ sym h'.1)
+read-determined s room after after' r r' h h' = (sym (read_back r) ∙ ap read_of_told (h.0 ∙ sym h'.0) ∙ read_back r', h.1 ∙ sym h'.1)
 
 -- The same of writing.
 pub write-determined : (l : List ℤ) (out after after' : List ℕ) (r r' : WriteAnswer)
-    → (writeTold r ≡ answer (writing l) out) × (after ≡ content (writing l) out) → (writeTold r' ≡ answer (writing l) out) × (after' ≡ content (writing l) out)
+    → (write_told r ≡ answer (writing l) out) × (after ≡ content (writing l) out) → (write_told r' ≡ answer (writing l) out) × (after' ≡ content (writing l) out)
     → (r ≡ r') × (after ≡ after')
-write-determined l out after after' r r' h h' = (sym (write-back r) ∙ ap writeBack (h.0 ∙ sym h'.0) ∙ write-back r', h.1 ∙ sym h'.1)
+write-determined l out after after' r r' h h' = (sym (write-back r) ∙ ap write_back (h.0 ∙ sym h'.0) ∙ write-back r', h.1 ∙ sym h'.1)
 
 -- The same of a number at a place.
-pub number-determined : (s : List ℕ) (at : ℕ) (r r' : NumberRead) → numberFound r ≡ readNumber s at → numberFound r' ≡ readNumber s at → r ≡ r'
-number-determined s at r r' h h' = sym (number-read-back r) ∙ ap numberBack (h ∙ sym h') ∙ number-read-back r'
+pub number-determined : (s : List ℕ) (at : ℕ) (r r' : NumberRead) → number_found r ≡ read_number s at → number_found r' ≡ read_number s at → r ≡ r'
+number-determined s at r r' h h' = sym (number-read-back r) ∙ ap number_back (h ∙ sym h') ∙ number-read-back r'

@@ -8,9 +8,9 @@ use lib.ListN.{length, length-append}
 use lib.Seq.{sets}
 use borrow.Author.Tests.{lt-ltb, le-ltb, le-leb, lt-leb, eq-eqb, ne_eqb}
 use Rattle.sheet.specs.Got.{fine, wrong}
-use Rattle.sheet.specs.Number.{writeNumber}
-use Rattle.sheet.specs.Sheet.{steps_of, stepsFault, stepsBytes, bytes_of}
-use Rattle.sheet.specs.Answer.{done, refusedAt, refusedBy, fill, answer, content, planFor, writing}
+use Rattle.sheet.specs.Number.{write_number}
+use Rattle.sheet.specs.Sheet.{steps_of, steps_fault, steps_bytes, bytes_of}
+use Rattle.sheet.specs.Answer.{done, refused_at, refused_by, fill, answer, content, plan_for, writing}
 use Rattle.sheet.proofs.Listed.{Filled, filled-then}
 
 -- a step for each four numbers
@@ -23,36 +23,36 @@ steps-count (o ∷ x ∷ y ∷ []) = refl
 steps-count (o ∷ x ∷ y ∷ z ∷ l) = omega (arith, steps-count l)
 
 module _ (l : List ℤ) (out : List ℕ) where
-  pub write-uneven : (length l % 4 ≡ 0 → ⊥) → (refusedBy 1 ≡ answer (writing l) out) × (out ≡ content (writing l) out)
+  pub write-uneven : (length l % 4 ≡ 0 → ⊥) → (refused_by 1 ≡ answer (writing l) out) × (out ≡ content (writing l) out)
   unfolding writing
   write-uneven h =
       let e = ne_eqb (length l % 4) 0 h in
       (rw e, rw e)
 
   module _ (even : length l % 4 ≡ 0) where
-    pub write-many : 256 < length l / 4 → (refusedAt 10 0 ≡ answer (writing l) out) × (out ≡ content (writing l) out)
+    pub write-many : 256 < length l / 4 → (refused_at 10 0 ≡ answer (writing l) out) × (out ≡ content (writing l) out)
     unfolding writing
     write-many h =
         let e = eq-eqb (length l % 4) 0 even in
         let m = lt-ltb 256 (length l / 4) h in
         (rw (e, m), rw (e, m))
 
-    plan : length l / 4 ≤ 256 → writing l ≡ planFor (stepsFault 0 (steps_of l)) (bytes_of (steps_of l))
+    plan : length l / 4 ≤ 256 → writing l ≡ plan_for (steps_fault 0 (steps_of l)) (bytes_of (steps_of l))
     unfolding writing
     plan h = rw (eq-eqb (length l % 4) 0 even, le-ltb 256 (length l / 4) h)
 
-    pub write-wrong : length l / 4 ≤ 256 → (n k : ℕ) → stepsFault 0 (steps_of l) ≡ wrong n k → (refusedAt n k ≡ answer (writing l) out) × (out ≡ content (writing l) out)
+    pub write-wrong : length l / 4 ≤ 256 → (n k : ℕ) → steps_fault 0 (steps_of l) ≡ wrong n k → (refused_at n k ≡ answer (writing l) out) × (out ≡ content (writing l) out)
     write-wrong h n k e = (rw (plan h, e), rw (plan h, e))
 
-    module _ (few : length l / 4 ≤ 256) (right : stepsFault 0 (steps_of l) ≡ fine) where
+    module _ (few : length l / 4 ≤ 256) (right : steps_fault 0 (steps_of l) ≡ fine) where
       fills : writing l ≡ fill (length (bytes_of (steps_of l))) (bytes_of (steps_of l))
       fills = rw (plan few, right)
 
-      pub write-size : length (bytes_of (steps_of l)) ≡ length (writeNumber (length l / 4)) + length (stepsBytes (steps_of l))
+      pub write-size : length (bytes_of (steps_of l)) ≡ length (write_number (length l / 4)) + length (steps_bytes (steps_of l))
       unfolding bytes_of
-      write-size = rw (steps-count l) (length-append (writeNumber (length l / 4)) (stepsBytes (steps_of l)))
+      write-size = rw (steps-count l) (length-append (write_number (length l / 4)) (steps_bytes (steps_of l)))
 
-      pub write-short : length out < length (bytes_of (steps_of l)) → (refusedBy 16 ≡ answer (writing l) out) × (out ≡ content (writing l) out)
+      pub write-short : length out < length (bytes_of (steps_of l)) → (refused_by 16 ≡ answer (writing l) out) × (out ≡ content (writing l) out)
       write-short h =
           let b = lt-leb (length (bytes_of (steps_of l))) (length out) h in
           (rw (fills, b), rw (fills, b))
@@ -63,6 +63,6 @@ module _ (l : List ℤ) (out : List ℕ) where
           (rw (fills, b, e), rw (fills, b))
 
       -- the count's bytes, and then the steps'
-      pub write-stored : (r : ℕ) (after after' : List ℕ) → Filled out 0 (writeNumber (length l / 4)) r after → after' ≡ sets after r (stepsBytes (steps_of l)) → after' ≡ sets out 0 (bytes_of (steps_of l))
+      pub write-stored : (r : ℕ) (after after' : List ℕ) → Filled out 0 (write_number (length l / 4)) r after → after' ≡ sets after r (steps_bytes (steps_of l)) → after' ≡ sets out 0 (bytes_of (steps_of l))
       unfolding bytes_of
-      write-stored r after after' f g = rw (steps-count l) (filled-then out 0 (writeNumber (length l / 4)) (stepsBytes (steps_of l)) r after f _ after' (refl, g)).1
+      write-stored r after after' f g = rw (steps-count l) (filled-then out 0 (write_number (length l / 4)) (steps_bytes (steps_of l)) r after f _ after' (refl, g)).1

@@ -25,6 +25,6 @@ pub data Verdict : Type 0 where
   fine : Verdict
   wrong : ℕ → ℕ → Verdict
 
-abbrev pub verdictOf : {A : Type 0} → Got A → Verdict
-verdictOf (got x p) = fine
-verdictOf (refused n p) = wrong n p
+abbrev pub verdict_of : {A : Type 0} → Got A → Verdict
+verdict_of (got x p) = fine
+verdict_of (refused n p) = wrong n p

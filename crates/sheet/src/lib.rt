@@ -1,6 +1,6 @@
 // Sheets: bytes to steps and back.
 ghost use Rattle.std.specs.Prelude.{◌≡◌};
-ghost use Rattle.sheet.specs.Answer.{readTold, reading, writeTold, writing, answer, content};
+ghost use Rattle.sheet.specs.Answer.{read_told, reading, write_told, writing, answer, content};
 
 use faults::check_listed;
 use number::NumberRead;
@@ -30,7 +30,7 @@ pub enum ReadAnswer {
 
 // Reads a sheet into a lent buffer, four numbers a step.
 pub fn read(bytes: &[u8], out: &mut [i64]) -> ReadAnswer
-    ensures { (readTold result ≡ answer (reading bytes.now) out.old) × (out.new ≡ content (reading bytes.now) out.old) }
+    ensures { (read_told result ≡ answer (reading bytes.now) out.old) × (out.new ≡ content (reading bytes.now) out.old) }
 {
     match first_number(bytes) {
         NumberRead::Value(n, p) => {
@@ -66,7 +66,7 @@ pub enum WriteAnswer {
 
 // Writes a sheet into a lent buffer, from four numbers a step.
 pub fn write(steps: &[i64], out: &mut [u8]) -> WriteAnswer
-    ensures { (writeTold result ≡ answer (writing steps.now) out.old) × (out.new ≡ content (writing steps.now) out.old) }
+    ensures { (write_told result ≡ answer (writing steps.now) out.old) × (out.new ≡ content (writing steps.now) out.old) }
 {
     if steps.len() % 4 != 0 {
         return WriteAnswer::Refused(Refusal::NotInDomain);

@@ -2,11 +2,11 @@
 ghost use Rattle.std.specs.Prelude.{◌≡◌, ◌<◌, ◌≤◌, ◌*◌, pos, length};
 ghost use Rattle.std.proofs.lemmas.List.Edits.{sets};
 ghost use Rattle.sheet.specs.declared.operator.Kind.TheVariants.{Signed, High, Earlier};
-ghost use Rattle.sheet.specs.Got.{verdictOf, fine};
+ghost use Rattle.sheet.specs.Got.{verdict_of, fine};
 ghost use Rattle.sheet.specs.Field.{field_at};
-ghost use Rattle.sheet.specs.Step.{fields_at, stepAt};
-ghost use Rattle.sheet.specs.Sheet.{stepsFrom, stepsIn, flat};
-ghost use Rattle.sheet.specs.Found.{fieldFound, stepFound, checkFound};
+ghost use Rattle.sheet.specs.Step.{fields_at, step_at};
+ghost use Rattle.sheet.specs.Sheet.{steps_from, steps_in, flat};
+ghost use Rattle.sheet.specs.Found.{field_found, step_found, check_found};
 
 use crate::number::{NumberRead, read_number};
 use crate::operator::{Fields, Kind, OPERATORS, fields_of, first, second, third};
@@ -35,7 +35,7 @@ pub enum Checked {
 }
 
 fn read_signed(s: &[u8], at: usize) -> FieldRead
-    ensures { fieldFound result ≡ field_at Signed s.now at 0 (pos 0) }
+    ensures { field_found result ≡ field_at Signed s.now at 0 (pos 0) }
 {
     match read_number(s, at) {
         NumberRead::Value(n, p) => FieldRead::Field(unfold(n), p),
@@ -44,7 +44,7 @@ fn read_signed(s: &[u8], at: usize) -> FieldRead
 }
 
 fn read_high(s: &[u8], at: usize, low: i64) -> FieldRead
-    ensures { fieldFound result ≡ field_at High s.now at 0 low }
+    ensures { field_found result ≡ field_at High s.now at 0 low }
 {
     match read_signed(s, at) {
         FieldRead::Field(x, p) => {
@@ -60,7 +60,7 @@ fn read_high(s: &[u8], at: usize, low: i64) -> FieldRead
 
 fn read_operand(s: &[u8], at: usize, k: usize) -> FieldRead
     requires { k ≤ 256 }
-    ensures { fieldFound result ≡ field_at Earlier s.now at k (pos 0) }
+    ensures { field_found result ≡ field_at Earlier s.now at k (pos 0) }
 {
     match read_number(s, at) {
         NumberRead::Value(n, p) => {
@@ -77,7 +77,7 @@ fn read_operand(s: &[u8], at: usize, k: usize) -> FieldRead
 // A field of step k, in a step whose first field is `low`.
 fn read_field(s: &[u8], at: usize, kind: Kind, k: usize, low: i64) -> FieldRead
     requires { k ≤ 256 }
-    ensures { fieldFound result ≡ field_at kind s.now at k low }
+    ensures { field_found result ≡ field_at kind s.now at k low }
 {
     match kind {
         Kind::Unused => FieldRead::Field(0, at),
@@ -90,7 +90,7 @@ fn read_field(s: &[u8], at: usize, kind: Kind, k: usize, low: i64) -> FieldRead
 // The fields of step k.
 fn read_fields(s: &[u8], p: usize, op: u64, f: Fields, k: usize) -> StepRead
     requires { (k ≤ 256) × (op < 17) }
-    ensures { stepFound result ≡ fields_at f s.now op p k }
+    ensures { step_found result ≡ fields_at f s.now op p k }
 {
     match read_field(s, p, first(f), k, 0) {
         FieldRead::Field(x, q) => match read_field(s, q, second(f), k, x) {
@@ -107,7 +107,7 @@ fn read_fields(s: &[u8], p: usize, op: u64, f: Fields, k: usize) -> StepRead
 // Step k at the place `at`.
 fn read_step(s: &[u8], at: usize, k: usize) -> StepRead
     requires { k ≤ 256 }
-    ensures { stepFound result ≡ stepAt s.now at k }
+    ensures { step_found result ≡ step_at s.now at k }
 {
     match read_number(s, at) {
         NumberRead::Value(op, p) => {
@@ -124,7 +124,7 @@ fn read_step(s: &[u8], at: usize, k: usize) -> StepRead
 // Whether n steps and then the end stand at the place `from`.
 pub(crate) fn check_steps(s: &[u8], from: usize, n: usize) -> Checked
     requires { n ≤ 256 }
-    ensures { checkFound result ≡ verdictOf (stepsFrom n s.now 0 from) }
+    ensures { check_found result ≡ verdict_of (steps_from n s.now 0 from) }
 {
     let mut at = from;
     let mut k: usize = 0;
@@ -148,8 +148,8 @@ pub(crate) fn check_steps(s: &[u8], from: usize, n: usize) -> Checked
 
 // Stores n steps that were checked, four numbers a step.
 pub(crate) fn fill_steps(s: &[u8], from: usize, n: usize, out: &mut [i64])
-    requires { (n ≤ 256) × (n * 4 ≤ length out.old) × (verdictOf (stepsFrom n s.now 0 from) ≡ fine) }
-    ensures { out.new ≡ sets out.old 0 (flat (stepsIn (stepsFrom n s.now 0 from))) }
+    requires { (n ≤ 256) × (n * 4 ≤ length out.old) × (verdict_of (steps_from n s.now 0 from) ≡ fine) }
+    ensures { out.new ≡ sets out.old 0 (flat (steps_in (steps_from n s.now 0 from))) }
 {
     let mut at = from;
     let mut k: usize = 0;

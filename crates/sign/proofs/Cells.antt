@@ -24,10 +24,10 @@ pub record Coded (A : Type 0) : Type 0 where
 pub alike : {A : Type 0} (K : Coded A) (a b : A) → T (eqb (K.code a) (K.code b)) → a ≡ b
 alike K a b t = let e = eqb→eq (K.code a) (K.code b) t in cc (K.again a, K.again b)
 
-abbrev pub signAt : ℕ → Sign
-signAt n = get_or (Top ∷ Bottom ∷ Negative ∷ Zero ∷ Positive ∷ NonNeg ∷ NonZero ∷ NonPos ∷ []) n Top
+abbrev pub sign_at : ℕ → Sign
+sign_at n = get_or (Top ∷ Bottom ∷ Negative ∷ Zero ∷ Positive ∷ NonNeg ∷ NonZero ∷ NonPos ∷ []) n Top
 
-pub at-index : (s : Sign) → signAt (index_of s) ≡ s
+pub at-index : (s : Sign) → sign_at (index_of s) ≡ s
 at-index Top = refl
 at-index Bottom = refl
 at-index Negative = refl
@@ -38,7 +38,7 @@ at-index NonZero = refl
 at-index NonPos = refl
 
 abbrev pub signs : Coded Sign
-signs = record { code = index_of; back = signAt; again = at-index }
+signs = record { code = index_of; back = sign_at; again = at-index }
 
 pub differ : (s t : Sign) → T (not (eqb (index_of s) (index_of t))) → s ≢ t
 differ s t u e = T_not (eqb (index_of s) (index_of t)) u (subst (λ (x : Sign). T (eqb (index_of s) (index_of x))) e (eqb_refl (index_of s)))
@@ -102,12 +102,12 @@ below NonZero = lit< tt
 below NonPos = lit< tt
 
 -- a test at each pair of signs
-abbrev pub eachPair : (Sign → Sign → Bool) → Bool
-eachPair f = up_to 8 (λ i. up_to 8 (λ j. f (signAt i) (signAt j)))
+abbrev pub each_pair : (Sign → Sign → Bool) → Bool
+each_pair f = up_to 8 (λ i. up_to 8 (λ j. f (sign_at i) (sign_at j)))
 
-pub pairs : (f : Sign → Sign → Bool) → T (eachPair f) → (a b : Sign) → T (f a b)
+pub pairs : (f : Sign → Sign → Bool) → T (each_pair f) → (a b : Sign) → T (f a b)
 pairs f t a b =
-    let h : T (f (signAt (index_of a)) (signAt (index_of b))) = passes (λ j. f (signAt (index_of a)) (signAt j)) 8 (index_of b) (below b) (passes (λ i. up_to 8 (λ j. f (signAt i) (signAt j))) 8 (index_of a) (below a) t) in
+    let h : T (f (sign_at (index_of a)) (sign_at (index_of b))) = passes (λ j. f (sign_at (index_of a)) (sign_at j)) 8 (index_of b) (below b) (passes (λ i. up_to 8 (λ j. f (sign_at i) (sign_at j))) 8 (index_of a) (below a) t) in
     rw (at-index a, at-index b) at h
 
 is-so : (b : Bool) → T b → b ≡ true
@@ -124,14 +124,14 @@ told_same s t = (
 )
 
 -- two tests, or two rules, that answer alike at each pair
-pub tests : (f g : Sign → Sign → Bool) → T (eachPair (λ a b. eqb (bit_of (f a b)) (bit_of (g a b)))) → (a b : Sign) → f a b ≡ g a b
+pub tests : (f g : Sign → Sign → Bool) → T (each_pair (λ a b. eqb (bit_of (f a b)) (bit_of (g a b)))) → (a b : Sign) → f a b ≡ g a b
 tests f g t a b = alike truths (f a b) (g a b) (pairs (λ a b. eqb (bit_of (f a b)) (bit_of (g a b))) t a b)
 
-pub rules : {A : Type 0} (K : Coded A) (f g : Sign → Sign → A) → T (eachPair (λ a b. eqb (K.code (f a b)) (K.code (g a b)))) → (a b : Sign) → f a b ≡ g a b
+pub rules : {A : Type 0} (K : Coded A) (f g : Sign → Sign → A) → T (each_pair (λ a b. eqb (K.code (f a b)) (K.code (g a b)))) → (a b : Sign) → f a b ≡ g a b
 rules K f g t a b = alike K (f a b) (g a b) (pairs (λ a b. eqb (K.code (f a b)) (K.code (g a b))) t a b)
 
 -- a rule answers s just where a test passes
-pub exactly : (f : Sign → Sign → Sign) (s : Sign) (g : Sign → Sign → Bool) → T (eachPair (λ a b. eqb (bit_of (eqb (index_of (f a b)) (index_of s))) (bit_of (g a b)))) → (a b : Sign) → (f a b ≡ s) ↔ (g a b ≡ true)
+pub exactly : (f : Sign → Sign → Sign) (s : Sign) (g : Sign → Sign → Bool) → T (each_pair (λ a b. eqb (bit_of (eqb (index_of (f a b)) (index_of s))) (bit_of (g a b)))) → (a b : Sign) → (f a b ≡ s) ↔ (g a b ≡ true)
 exactly f s g t a b =
     let e = tests (λ a b. eqb (index_of (f a b)) (index_of s)) g t a b in
     let u = told_same (f a b) s in
@@ -143,7 +143,7 @@ module _ {A : Type 0} (K : Coded A) (table : List (List A)) (default : A) (rule 
   cell i j = get_or (get_or table i []) j default
 
   abbrev pub right : Bool
-  right = eachPair (λ a b. eqb (K.code (cell (index_of a) (index_of b))) (K.code (rule a b)))
+  right = each_pair (λ a b. eqb (K.code (cell (index_of a) (index_of b))) (K.code (rule a b)))
 
   pub reads : T right → (i j : ℕ) (a b : Sign) → i ≡ index_of a → j ≡ index_of b → cell i j ≡ rule a b
   reads t i j a b p q = rw (p, q) (rules K (λ a b. cell (index_of a) (index_of b)) rule t a b)

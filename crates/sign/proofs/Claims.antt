@@ -20,16 +20,16 @@ use Rattle.refusal.proofs.Claims.{number-tells}
 use Rattle.sign.specs.declared.SignAnswer.{SignAnswer}
 use Rattle.sign.specs.declared.SignAnswer.TheVariants.{Is, Refused}
 use Rattle.sign.specs.Set.{side_of, ◌has◌, ◌∈◌}
-use Rattle.sign.specs.Sides.{withNought}
+use Rattle.sign.specs.Sides.{with_nought}
 use Rattle.sign.specs.Numbers.{Least₁, Least, LeastOver, ◌≻◌, ◌≽◌, Ordered, Strict, Weak, Judged}
 use Rattle.sign.specs.Numbers as numbers
 use Rattle.sign.specs.Logical.{Combined, Equated, Turned}
 use Rattle.sign.specs.Logical as logical
 use Rattle.sign.specs.Answer.{said}
 use Rattle.sign.specs.Ported as ported
-use Rattle.sign.specs.Ported.{ofNumber, join, meet, partial_cmp, widen, narrow, add, neg, sub, mul, rem, logicalEq, logicalAnd, logicalOr, strictCmp}
+use Rattle.sign.specs.Ported.{of_number, join, meet, partial_cmp, widen, narrow, add, neg, sub, mul, rem, logical_eq, logical_and, logical_or, strict_cmp}
 use Rattle.sign.specs.Mended as mended
-use Rattle.sign.specs.Mended.{equals, less, greater, lessOrEqual, greaterOrEqual}
+use Rattle.sign.specs.Mended.{equals, less, greater, less_or_equal, greater_or_equal}
 use Rattle.sign.proofs.Cells.{differ, rules, signs}
 use Rattle.sign.proofs.Truths.{judged-has, kept, is_same, tells-either, picked, surely-test, combined}
 use Rattle.sign.proofs.Quotients.{rem-in, rem-reached, quot-in, mended-adds-0}
@@ -38,8 +38,8 @@ use Rattle.sign.proofs.Differences.{add-covers, add-reach, neg-covers, neg-back,
 
 -- ---- the sign of a number
 
-pub of-number-exact : (x y : ℤ) → (y ∈ ofNumber x) ↔ (side_of y ≡ side_of x)
-unfolding ofNumber
+pub of-number-exact : (x y : ℤ) → (y ∈ of_number x) ↔ (side_of y ≡ side_of x)
+unfolding of_number
 of-number-exact x y = (λ h. side-only (side_of x) (side_of y) h.is, λ e. record { is = rw e (side-itself (side_of x)) })
 
 -- ---- the lattice
@@ -94,12 +94,12 @@ mul-least a b = least_by ◌*ℤ◌ a b (mul a b) (told_covers products a b) (to
 
 -- ---- how their numbers compare
 
-pub strict-exact : (a b : Sign) → Strict a b (strictCmp a b)
-unfolding strictCmp
+pub strict-exact : (a b : Sign) → Strict a b (strict_cmp a b)
+unfolding strict_cmp
 strict-exact a b = strict-by a b
 
-pub mended-weak-exact : (a b : Sign) → Weak a b (mended.weakCmp a b)
-unfolding mended.weakCmp
+pub mended-weak-exact : (a b : Sign) → Weak a b (mended.weak_cmp a b)
+unfolding mended.weak_cmp
 mended-weak-exact a b = weak-by a b
 
 pub equals-exact : (a b : Sign) → Judged ◌≡◌ a b (equals a b)
@@ -114,12 +114,12 @@ pub greater-exact : (a b : Sign) → Judged ◌≻◌ a b (greater a b)
 unfolding greater
 greater-exact a b = judged-by a b by-greater
 
-pub less-or-equal-exact : (a b : Sign) → Judged ◌≼◌ a b (lessOrEqual a b)
-unfolding lessOrEqual
+pub less-or-equal-exact : (a b : Sign) → Judged ◌≼◌ a b (less_or_equal a b)
+unfolding less_or_equal
 less-or-equal-exact a b = judged-by a b by-at-most
 
-pub greater-or-equal-exact : (a b : Sign) → Judged ◌≽◌ a b (greaterOrEqual a b)
-unfolding greaterOrEqual
+pub greater-or-equal-exact : (a b : Sign) → Judged ◌≽◌ a b (greater_or_equal a b)
+unfolding greater_or_equal
 greater-or-equal-exact a b = judged-by a b by-at-least
 
 -- an empty side gives both
@@ -144,16 +144,16 @@ module _ (a : Sign) where
   unfolding greater
   greater-empty = empty-judged Positive a
 
-  pub less-or-equal-empty : (lessOrEqual a Bottom ≡ NonNeg) × (lessOrEqual Bottom a ≡ NonNeg)
-  unfolding lessOrEqual
+  pub less-or-equal-empty : (less_or_equal a Bottom ≡ NonNeg) × (less_or_equal Bottom a ≡ NonNeg)
+  unfolding less_or_equal
   less-or-equal-empty = empty-judged NonPos a
 
-  pub greater-or-equal-empty : (greaterOrEqual a Bottom ≡ NonNeg) × (greaterOrEqual Bottom a ≡ NonNeg)
-  unfolding greaterOrEqual
+  pub greater-or-equal-empty : (greater_or_equal a Bottom ≡ NonNeg) × (greater_or_equal Bottom a ≡ NonNeg)
+  unfolding greater_or_equal
   greater-or-equal-empty = empty-judged NonNeg a
 
-  pub strict-none-beside-bottom : (strictCmp a Bottom ≡ None) × (strictCmp Bottom a ≡ None)
-  unfolding strictCmp sub add neg
+  pub strict-none-beside-bottom : (strict_cmp a Bottom ≡ None) × (strict_cmp Bottom a ≡ None)
+  unfolding strict_cmp sub add neg
   strict-none-beside-bottom = (rw (sub-empty a) refl, refl)
 
 -- true, false and both among 0 and 1
@@ -172,10 +172,10 @@ module _ (a b : Sign) (x y : ℤ) (h : x ∈ a) (k : y ∈ b) where
   pub greater-covers : truth (y <? x) ∈ greater a b
   greater-covers = judged-has (greater-exact a b) x y h k (lt_test y x) (λ n e. omega ints)
 
-  pub less-or-equal-covers : truth (x ≤? y) ∈ lessOrEqual a b
+  pub less-or-equal-covers : truth (x ≤? y) ∈ less_or_equal a b
   less-or-equal-covers = judged-has (less-or-equal-exact a b) x y h k (le_test x y) (λ n e. omega ints)
 
-  pub greater-or-equal-covers : truth (y ≤? x) ∈ greaterOrEqual a b
+  pub greater-or-equal-covers : truth (y ≤? x) ∈ greater_or_equal a b
   greater-or-equal-covers = judged-has (greater-or-equal-exact a b) x y h k (le_test y x) (λ n e. omega ints)
 
 -- ---- remainders and quotients
@@ -199,7 +199,7 @@ unfolding mended.div
 mended-div-is a b = picked (is_same (ported.div a b) NonZero)
 
 -- where the product lies, or 0; so Bottom beside Bottom
-pub mended-div-by-product : (a b : Sign) → mended.div a b ≡ withNought (mul a b)
+pub mended-div-by-product : (a b : Sign) → mended.div a b ≡ with_nought (mul a b)
 unfolding mended.div ported.div
 mended-div-by-product a b = mended-adds-0 (mul a b)
 
@@ -213,42 +213,42 @@ mended-div-covers a b x y h k f = rw (mended-div-by-product a b) (quot-in a b x 
 -- ---- logic
 
 -- and, or: Zero decides and, Positive decides or; the other, where both operands are it; else NonNeg
-pub and_is : (a b : Sign) → Combined Zero Positive a b (logicalAnd a b)
-unfolding logicalAnd
+pub and_is : (a b : Sign) → Combined Zero Positive a b (logical_and a b)
+unfolding logical_and
 and_is a b = combined Zero Positive a b
 
-pub or_is : (a b : Sign) → Combined Positive Zero a b (logicalOr a b)
-unfolding logicalOr
+pub or_is : (a b : Sign) → Combined Positive Zero a b (logical_or a b)
+unfolding logical_or
 or_is a b = combined Positive Zero a b
 
 -- the truth of every two truth values
-pub and_covers : (a b : Sign) (p q : Bool) → truth p ∈ a → truth q ∈ b → truth (p && q) ∈ logicalAnd a b
-unfolding logicalAnd
-and_covers a b true true = kept logicalAnd (pos 1) (pos 1) (pos 1) tt a b
-and_covers a b true false = kept logicalAnd (pos 1) (pos 0) (pos 0) tt a b
-and_covers a b false true = kept logicalAnd (pos 0) (pos 1) (pos 0) tt a b
-and_covers a b false false = kept logicalAnd (pos 0) (pos 0) (pos 0) tt a b
+pub and_covers : (a b : Sign) (p q : Bool) → truth p ∈ a → truth q ∈ b → truth (p && q) ∈ logical_and a b
+unfolding logical_and
+and_covers a b true true = kept logical_and (pos 1) (pos 1) (pos 1) tt a b
+and_covers a b true false = kept logical_and (pos 1) (pos 0) (pos 0) tt a b
+and_covers a b false true = kept logical_and (pos 0) (pos 1) (pos 0) tt a b
+and_covers a b false false = kept logical_and (pos 0) (pos 0) (pos 0) tt a b
 
-pub or-covers : (a b : Sign) (p q : Bool) → truth p ∈ a → truth q ∈ b → truth (p || q) ∈ logicalOr a b
-unfolding logicalOr
-or-covers a b true true = kept logicalOr (pos 1) (pos 1) (pos 1) tt a b
-or-covers a b true false = kept logicalOr (pos 1) (pos 0) (pos 1) tt a b
-or-covers a b false true = kept logicalOr (pos 0) (pos 1) (pos 1) tt a b
-or-covers a b false false = kept logicalOr (pos 0) (pos 0) (pos 0) tt a b
+pub or-covers : (a b : Sign) (p q : Bool) → truth p ∈ a → truth q ∈ b → truth (p || q) ∈ logical_or a b
+unfolding logical_or
+or-covers a b true true = kept logical_or (pos 1) (pos 1) (pos 1) tt a b
+or-covers a b true false = kept logical_or (pos 1) (pos 0) (pos 1) tt a b
+or-covers a b false true = kept logical_or (pos 0) (pos 1) (pos 1) tt a b
+or-covers a b false false = kept logical_or (pos 0) (pos 0) (pos 0) tt a b
 
-pub eq_is : (a b : Sign) (isBool : Bool) → Equated a b isBool (logicalEq a b isBool)
-unfolding logicalEq
-eq_is a b isBool =
-    branch (surely-test a b isBool) (Equated a b isBool) logical.Equated.sure
-    (λ n. branch (tells-either (inside-test a b) (inside-test b a)) (Equated a b isBool) (logical.Equated.maybe n) (logical.Equated.apart n))
+pub eq_is : (a b : Sign) (is_bool : Bool) → Equated a b is_bool (logical_eq a b is_bool)
+unfolding logical_eq
+eq_is a b is_bool =
+    branch (surely-test a b is_bool) (Equated a b is_bool) logical.Equated.sure
+    (λ n. branch (tells-either (inside-test a b) (inside-test b a)) (Equated a b is_bool) (logical.Equated.maybe n) (logical.Equated.apart n))
 
 -- not
 is-no-refusal : {s : Sign} {n : ℕ} → is s ≡ refused n → ⊥
 is-no-refusal e = let z : ◌≡◌ {A = ℕ} 0 1 = cc in omega arith
 
 -- the ported one is refused by 4 on five signs, and on no more
-pub ported-not-refuses : (s : Sign) → (ported.logicalNot s ≡ refused 4) ↔ ((s ≢ NonNeg) × (s ≢ Positive) × (s ≢ Zero))
-unfolding ported.logicalNot
+pub ported-not-refuses : (s : Sign) → (ported.logical_not s ≡ refused 4) ↔ ((s ≢ NonNeg) × (s ≢ Positive) × (s ≢ Zero))
+unfolding ported.logical_not
 ported-not-refuses Top = (λ e. (differ Top NonNeg tt, differ Top Positive tt, differ Top Zero tt), λ e. refl)
 ported-not-refuses Bottom = (λ e. (differ Bottom NonNeg tt, differ Bottom Positive tt, differ Bottom Zero tt), λ e. refl)
 ported-not-refuses Negative = (λ e. (differ Negative NonNeg tt, differ Negative Positive tt, differ Negative Zero tt), λ e. refl)
@@ -258,13 +258,13 @@ ported-not-refuses NonNeg = (λ e. absurd (is-no-refusal e), λ e. absurd (e.0 r
 ported-not-refuses Positive = (λ e. absurd (is-no-refusal e), λ e. absurd (e.1 refl))
 ported-not-refuses Zero = (λ e. absurd (is-no-refusal e), λ e. absurd (e.2 refl))
 
-pub ported-not-answers : (ported.logicalNot Zero ≡ is Positive) × (ported.logicalNot Positive ≡ is Zero) × (ported.logicalNot NonNeg ≡ is NonNeg)
-unfolding ported.logicalNot
+pub ported-not-answers : (ported.logical_not Zero ≡ is Positive) × (ported.logical_not Positive ≡ is Zero) × (ported.logical_not NonNeg ≡ is NonNeg)
+unfolding ported.logical_not
 ported-not-answers = (refl, refl, refl)
 
 -- the mended one: Bottom for Bottom, NonNeg for the other four, as ported elsewhere; right on 0 and on 1
-pub mended-not-is : (s : Sign) → Turned s (ported.logicalNot s) (mended.logicalNot s)
-unfolding ported.logicalNot mended.logicalNot
+pub mended-not-is : (s : Sign) → Turned s (ported.logical_not s) (mended.logical_not s)
+unfolding ported.logical_not mended.logical_not
 mended-not-is Top = logical.Turned.four (differ Top Bottom tt)
 mended-not-is Bottom = logical.Turned.bottom refl
 mended-not-is Negative = logical.Turned.four (differ Negative Bottom tt)
@@ -274,11 +274,11 @@ mended-not-is NonNeg = logical.Turned.as-ported
 mended-not-is NonZero = logical.Turned.four (differ NonZero Bottom tt)
 mended-not-is NonPos = logical.Turned.four (differ NonPos Bottom tt)
 
-pub mended-not-right : (s : Sign) → (pos 0 ∈ s → pos 1 ∈ mended.logicalNot s) × (pos 1 ∈ s → pos 0 ∈ mended.logicalNot s)
-unfolding mended.logicalNot
+pub mended-not-right : (s : Sign) → (pos 0 ∈ s → pos 1 ∈ mended.logical_not s) × (pos 1 ∈ s → pos 0 ∈ mended.logical_not s)
+unfolding mended.logical_not
 mended-not-right s = (
-  λ h. kept (λ a b. mended.logicalNot a) (pos 0) (pos 0) (pos 1) tt s s h h,
-  λ h. kept (λ a b. mended.logicalNot a) (pos 1) (pos 1) (pos 0) tt s s h h,
+  λ h. kept (λ a b. mended.logical_not a) (pos 0) (pos 0) (pos 1) tt s s h h,
+  λ h. kept (λ a b. mended.logical_not a) (pos 1) (pos 1) (pos 0) tt s s h h,
 )
 
 -- what an answer says fixes it

@@ -11,9 +11,9 @@ use types.Run.{OneOf}
 use Rattle.sign.specs.declared.Sign.{Sign}
 use Rattle.sign.specs.declared.Sign.TheVariants.{Top, Bottom, Negative, Zero, Positive, NonNeg, NonZero, NonPos}
 use Rattle.sign.specs.contracts.Sign.{the_type}
-use Rattle.sign.proofs.Cells.{Coded, alike, both_of, signAt}
+use Rattle.sign.proofs.Cells.{Coded, alike, both_of, sign_at}
 
-at_tag : (s : Sign) → signAt (tag_of the_type s) ≡ s
+at_tag : (s : Sign) → sign_at (tag_of the_type s) ≡ s
 at_tag Top = refl
 at_tag Bottom = refl
 at_tag Negative = refl
@@ -26,10 +26,10 @@ at_tag NonPos = refl
 -- a statement at each sign of an arm
 abbrev pub Each : List ℕ → (Sign → Type 0) → Type 0
 Each [] P = Unit
-Each (k ∷ ks) P = P (signAt k) × Each ks P
+Each (k ∷ ks) P = P (sign_at k) × Each ks P
 
-at_key : (P : Sign → Type 0) (k : ℕ) (s : Sign) → P (signAt k) → tag_of the_type s ≡ k → P s
-at_key P k s t e = subst P (at_tag s) (subst (λ n. P (signAt n)) (sym e) t)
+at_key : (P : Sign → Type 0) (k : ℕ) (s : Sign) → P (sign_at k) → tag_of the_type s ≡ k → P s
+at_key P k s t e = subst P (at_tag s) (subst (λ n. P (sign_at n)) (sym e) t)
 
 pub arm : (P : Sign → Type 0) (ks : List ℕ) → Each ks P → (s : Sign) → OneOf ks (tag_of the_type s) → P s
 arm P [] t s h = absurd h
@@ -40,11 +40,11 @@ arm P (k ∷ l ∷ ks) t s (inr h) = arm P (l ∷ ks) t.1 s h
 -- a test at each sign of an arm
 abbrev pub all : List ℕ → (Sign → Bool) → Bool
 all [] f = true
-all (k ∷ ks) f = f (signAt k) && all ks f
+all (k ∷ ks) f = f (sign_at k) && all ks f
 
 each_of : (f : Sign → Bool) (ks : List ℕ) → T (all ks f) → Each ks (λ s. T (f s))
 each_of f [] t = tt
-each_of f (k ∷ ks) t = let h = both_of (f (signAt k)) (all ks f) t in (h.0, each_of f ks h.1)
+each_of f (k ∷ ks) t = let h = both_of (f (sign_at k)) (all ks f) t in (h.0, each_of f ks h.1)
 
 module _ {A : Type 0} (K : Coded A) where
   -- one match

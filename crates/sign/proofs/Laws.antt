@@ -14,8 +14,8 @@ use Rattle.whole.proofs.Flags.{or_yes}
 use Rattle.whole.proofs.Linear.{ints, sum as sum-parts, neg as neg-parts}
 use Rattle.sign.specs.declared.Sign.{Sign}
 use Rattle.sign.specs.Set.{Side, negative, nought, positive, side_of, ◌has◌, ◌∈◌}
-use Rattle.sign.specs.Sides.{sign_of, those, some, each, filled, ◌inside◌, withNought, opposite, sum, product, reached}
-use Rattle.sign.specs.Ported.{ofSide, join}
+use Rattle.sign.specs.Sides.{sign_of, those, some, each, filled, ◌inside◌, with_nought, opposite, sum, product, reached}
+use Rattle.sign.specs.Ported.{of_side, join}
 use Rattle.sign.specs.Numbers.{◌⊑◌, Least}
 
 -- ---- truth values
@@ -157,7 +157,7 @@ side-above (pos zero) h = absurd (omega ints)
 side-above (pos (suc k)) h = refl
 
 -- the sign of one side
-pub side-only : (p q : Side) → (ofSide p has q) ≡ true → q ≡ p
+pub side-only : (p q : Side) → (of_side p has q) ≡ true → q ≡ p
 side-only negative negative h = refl
 side-only negative nought h = was h refl
 side-only negative positive h = was h refl
@@ -168,7 +168,7 @@ side-only positive negative h = was h refl
 side-only positive nought h = was h refl
 side-only positive positive h = refl
 
-pub side-itself : (p : Side) → (ofSide p has p) ≡ true
+pub side-itself : (p : Side) → (of_side p has p) ≡ true
 side-itself negative = refl
 side-itself nought = refl
 side-itself positive = refl
@@ -209,18 +209,18 @@ filled-by s x h = some_of (λ d. s has d) (side_of x) h.is
 
 -- ---- its own sides and 0
 
-pub with-nought : (s : Sign) → ((withNought s has negative) ≡ (s has negative)) × ((withNought s has nought) ≡ filled s) × ((withNought s has positive) ≡ (s has positive))
+pub with-nought : (s : Sign) → ((with_nought s has negative) ≡ (s has negative)) × ((with_nought s has nought) ≡ filled s) × ((with_nought s has positive) ≡ (s has positive))
 with-nought s = (made negative, made nought, made positive)
   where
-    made : (d : Side) → (withNought s has d) ≡ at d (s has negative) (filled s) (s has positive)
+    made : (d : Side) → (with_nought s has d) ≡ at d (s has negative) (filled s) (s has positive)
     made = sign-has (s has negative) (filled s) (s has positive)
 
-pub own-side : (s : Sign) (d : Side) → (s has d) ≡ true → (withNought s has d) ≡ true
+pub own-side : (s : Sign) (d : Side) → (s has d) ≡ true → (with_nought s has d) ≡ true
 own-side s negative h = (with-nought s).0 ∙ h
 own-side s nought h = (with-nought s).1 ∙ some_of (λ d. s has d) nought h
 own-side s positive h = (with-nought s).2 ∙ h
 
-pub nought-side : (s : Sign) (d : Side) → (s has d) ≡ true → (withNought s has nought) ≡ true
+pub nought-side : (s : Sign) (d : Side) → (s has d) ≡ true → (with_nought s has nought) ≡ true
 nought-side s d h = (with-nought s).1 ∙ some_of (λ d. s has d) d h
 
 -- ---- the sides that an operation reaches
@@ -324,13 +324,13 @@ lies-product (pos (suc a)) (pos (suc b)) = rw (above-pos (suc a * suc b) (mul-po
 -- ---- a pair for each side is one test of the 27 triples of sides
 
 abbrev meets : (ℤ → ℤ → ℤ) → (Side → Side → Sign) → Side → Side → Side → Bool
-meets op f p q d = not (f p q has d) || (ofSide d has side_of (op (far d p) (far d q)))
+meets op f p q d = not (f p q has d) || (of_side d has side_of (op (far d p) (far d q)))
 
 met_by : (op : ℤ → ℤ → ℤ) (f : Side → Side → Sign) → each (λ p. each (λ q. each (meets op f p q))) ≡ true →
     (p q d : Side) → (f p q has d) ≡ true → side_of (op (far d p) (far d q)) ≡ d
 met_by op f t p q d h =
     side-only d (side_of (op (far d p) (far d q)))
-    (in-or-out (f p q has d) (ofSide d has side_of (op (far d p) (far d q)))
+    (in-or-out (f p q has d) (of_side d has side_of (op (far d p) (far d q)))
     (each_at (meets op f p q) (each_at (λ q. each (meets op f p q)) (each_at (λ p. each (λ q. each (meets op f p q))) t p) q) d) h)
 
 pub sums : Told ◌+ℤ◌ sum

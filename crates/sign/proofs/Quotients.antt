@@ -13,9 +13,9 @@ use Rattle.whole.proofs.Linear.{ints, neg as neg-parts}
 use Rattle.sign.specs.declared.Sign.{Sign}
 use Rattle.sign.specs.declared.Sign.TheVariants.{Top, Bottom, Negative, Zero, Positive, NonNeg, NonZero, NonPos}
 use Rattle.sign.specs.Set.{Side, negative, nought, positive, side_of, ◌has◌, ◌∈◌}
-use Rattle.sign.specs.Sides.{each, withNought, product}
-use Rattle.sign.specs.Ported.{ofSide, mul, quotient}
-use Rattle.sign.specs.Mended.{topForNonZero}
+use Rattle.sign.specs.Sides.{each, with_nought, product}
+use Rattle.sign.specs.Ported.{of_side, mul, quotient}
+use Rattle.sign.specs.Mended.{top_for_non_zero}
 use Rattle.sign.specs.Wrong.{Missed}
 use Rattle.sign.proofs.Laws.{was, From, reached-from, side-at, side-only, each_at, some-found, far, far-in, with-nought, own-side, nought-side, reached-by}
 
@@ -23,7 +23,7 @@ use Rattle.sign.proofs.Laws.{was, From, reached-from, side-at, side-only, each_a
 abbrev Near : Side → ℤ → Type 0
 Near d z = (side_of z ≡ d) ⊎ (side_of z ≡ nought)
 
-near-in : (s : Sign) (d : Side) (z : ℤ) → (s has d) ≡ true → Near d z → z ∈ withNought s
+near-in : (s : Sign) (d : Side) (z : ℤ) → (s has d) ≡ true → Near d z → z ∈ with_nought s
 near-in s d z h (inl e) = record { is = rw e (own-side s d h) }
 near-in s d z h (inr e) = record { is = rw e (nought-side s d h) }
 
@@ -44,7 +44,7 @@ rem-near (negsuc k) y = near-negative (rem_z (negsuc k) y) (rem-nonpos (negsuc k
 rem-near (pos zero) y = inr (side-at (rem_z (pos zero) y) (omega (ints, rem-nonneg (pos zero) y (omega ints), rem-nonpos (pos zero) y (omega ints))))
 rem-near (pos (suc k)) y = near-positive (rem_z (pos (suc k)) y) (rem-nonneg (pos (suc k)) y (omega ints))
 
-pub rem-in : (s : Sign) (x y : ℤ) → x ∈ s → rem_z x y ∈ withNought s
+pub rem-in : (s : Sign) (x y : ℤ) → x ∈ s → rem_z x y ∈ with_nought s
 rem-in s x y h = near-in s (side_of x) (rem_z x y) h.is (rem-near x y)
 
 -- on the side of a divisor that isn't 0: the number next to 0 leaves no remainder, the one after it leaves 1 and -1
@@ -59,8 +59,8 @@ record Divisor (b : Sign) : Type 0 where
   kept : (p : Side) → side_of (rem_z (far nought p) two) ≡ p
 
 -- two rules of sides that answer alike at each side
-each-side : (f g : Side → Side) → each (λ p. ofSide (g p) has f p) ≡ true → (p : Side) → f p ≡ g p
-each-side f g t p = side-only (g p) (f p) (each_at (λ p. ofSide (g p) has f p) t p)
+each-side : (f g : Side → Side) → each (λ p. of_side (g p) has f p) ≡ true → (p : Side) → f p ≡ g p
+each-side f g t p = side-only (g p) (f p) (each_at (λ p. of_side (g p) has f p) t p)
 
 divisor-of : (b : Sign) (y : ℤ) → y ∈ b → y ≢ pos 0 → Divisor b
 divisor-of b (negsuc k) h f = record {
@@ -86,7 +86,7 @@ divisor-of b (pos (suc k)) h f = record {
 }
 
 -- where there is such a divisor, each side is reached
-pub rem-reached : (a b t : Sign) (y : ℤ) → y ∈ b → y ≢ pos 0 → ((x y : ℤ) → x ∈ a → y ∈ b → y ≢ pos 0 → rem_z x y ∈ t) → (d : Side) → (withNought a has d) ≡ true → (t has d) ≡ true
+pub rem-reached : (a b t : Sign) (y : ℤ) → y ∈ b → y ≢ pos 0 → ((x y : ℤ) → x ∈ a → y ∈ b → y ≢ pos 0 → rem_z x y ∈ t) → (d : Side) → (with_nought a has d) ≡ true → (t has d) ≡ true
 rem-reached a b t y h f g = by
   where
     v : Divisor b
@@ -95,7 +95,7 @@ rem-reached a b t y h f g = by
     stays : (p : Side) → (a has p) ≡ true → (t has p) ≡ true
     stays p k = subst (λ (e : Side). (t has e) ≡ true) (v.kept p) (g (far nought p) v.two (far-in a nought p k) v.in_two v.two-not-0).is
 
-    by : (d : Side) → (withNought a has d) ≡ true → (t has d) ≡ true
+    by : (d : Side) → (with_nought a has d) ≡ true → (t has d) ≡ true
     by negative k = stays negative (sym (with-nought a).0 ∙ k)
     by nought k =
         let w = some-found (λ d. a has d) (sym (with-nought a).1 ∙ k) in
@@ -119,7 +119,7 @@ quot-beside (pos zero) (pos (suc b)) f = record { side = nought; hits = refl; ne
 quot-beside (pos (suc a)) (negsuc b) f = record { side = negative; hits = refl; near = near-negative (neg_ℤ (pos (suc a / suc b))) (omega (ints, neg-parts (pos (suc a / suc b)))) }
 quot-beside (pos (suc a)) (pos (suc b)) f = record { side = positive; hits = refl; near = near-positive (pos (suc a / suc b)) (omega ints) }
 
-pub quot-in : (a b : Sign) (x y : ℤ) → x ∈ a → y ∈ b → y ≢ pos 0 → quot_z x y ∈ withNought (mul a b)
+pub quot-in : (a b : Sign) (x y : ℤ) → x ∈ a → y ∈ b → y ≢ pos 0 → quot_z x y ∈ with_nought (mul a b)
 unfolding mul
 quot-in a b x y h k f =
     let n = quot-beside x y f in
@@ -127,7 +127,7 @@ quot-in a b x y h k f =
 
 -- ---- the two divisions add 0 to the product's sides; the ported one not to NonZero
 
-pub mended-adds-0 : (s : Sign) → topForNonZero (quotient s) ≡ withNought s
+pub mended-adds-0 : (s : Sign) → top_for_non_zero (quotient s) ≡ with_nought s
 mended-adds-0 Top = refl
 mended-adds-0 Bottom = refl
 mended-adds-0 Negative = refl
@@ -137,7 +137,7 @@ mended-adds-0 NonNeg = refl
 mended-adds-0 NonZero = refl
 mended-adds-0 NonPos = refl
 
-pub ported-adds-0 : (s : Sign) → s ≢ NonZero → quotient s ≡ withNought s
+pub ported-adds-0 : (s : Sign) → s ≢ NonZero → quotient s ≡ with_nought s
 ported-adds-0 Top f = refl
 ported-adds-0 Bottom f = refl
 ported-adds-0 Negative f = refl

@@ -19,7 +19,7 @@ use Rattle.sign.specs.Numbers.{Judged}
 use Rattle.sign.specs.Numbers as numbers
 use Rattle.sign.specs.Logical.{Surely, Combined}
 use Rattle.sign.specs.Logical as logical
-use Rattle.sign.proofs.Cells.{eachPair, bit_of, tests, told_same}
+use Rattle.sign.proofs.Cells.{each_pair, bit_of, tests, told_same}
 use Rattle.sign.proofs.Laws.{was, decide, in-or-out, and-of}
 
 pub judged-has : {R : ℤ → ℤ → Type 0} {a b s : Sign} → Judged R a b s → (x y : ℤ) → x ∈ a → y ∈ b → {N : Type 0} {t : Bool} → Decides (R x y) N t → (N → R x y → ⊥) → truth t ∈ s
@@ -34,7 +34,7 @@ judged-has (numbers.Judged.both e f) x y h k (fails m) n = record { is = refl }
 abbrev pub keeps : (Sign → Sign → Sign) → ℤ → ℤ → ℤ → Sign → Sign → Bool
 keeps rule x y z a b = not ((a has side_of x) && (b has side_of y)) || (rule a b has side_of z)
 
-pub kept : (rule : Sign → Sign → Sign) (x y z : ℤ) → T (eachPair (λ a b. eqb (bit_of (keeps rule x y z a b)) 1)) → (a b : Sign) → x ∈ a → y ∈ b → z ∈ rule a b
+pub kept : (rule : Sign → Sign → Sign) (x y z : ℤ) → T (each_pair (λ a b. eqb (bit_of (keeps rule x y z a b)) 1)) → (a b : Sign) → x ∈ a → y ∈ b → z ∈ rule a b
 kept rule x y z t a b h k = record { is = in-or-out ((a has side_of x) && (b has side_of y)) (rule a b has side_of z) (tests (keeps rule x y z) (λ a b. true) t a b) (and-of h.is k.is) }
 
 -- ---- signs that are the same
@@ -68,10 +68,10 @@ pub picked : {A X : Type 0} {x y : X} {t : Bool} → Tells A t → (A → pick t
 picked (holds a) = (λ _. refl, λ n. absurd (n a))
 picked (fails n) = (λ a. absurd (n a), λ _. refl)
 
-pub surely-test : (a b : Sign) (isBool : Bool) → Tells (Surely a b isBool) (surely a b isBool)
-surely-test a b isBool =
+pub surely-test : (a b : Sign) (is_bool : Bool) → Tells (Surely a b is_bool) (surely a b is_bool)
+surely-test a b is_bool =
     tells-either (tells_both (is_same a Zero) (is_same b Zero))
-    (tells_both (is_same a Positive) (tells_both (is_same b Positive) (decide isBool (λ h. h) (λ h. h))))
+    (tells_both (is_same a Positive) (tells_both (is_same b Positive) (decide is_bool (λ h. h) (λ h. h))))
 
 pub combined : (d e a b : Sign) → Combined d e a b (pick ((a same d) || (b same d)) d (pick ((a same e) && (b same e)) e NonNeg))
 combined d e a b =

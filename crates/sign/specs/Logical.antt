@@ -13,13 +13,13 @@ pub data Combined (d e a b : Sign) : Sign → Type 0 where
 
 -- both are 0; or both are positive and known to be 0 or 1
 abbrev pub Surely : Sign → Sign → Bool → Type 0
-Surely a b isBool = ((a ≡ Zero) × (b ≡ Zero)) ⊎ ((a ≡ Positive) × ((b ≡ Positive) × (isBool ≡ true)))
+Surely a b is_bool = ((a ≡ Zero) × (b ≡ Zero)) ⊎ ((a ≡ Positive) × ((b ≡ Positive) × (is_bool ≡ true)))
 
 -- surely equal; one inside the other; neither
-pub data Equated (a b : Sign) (isBool : Bool) : Sign → Type 0 where
-  sure : Surely a b isBool → Equated a b isBool Positive
-  maybe : (Surely a b isBool → ⊥) → (a ⊑ b) ⊎ (b ⊑ a) → Equated a b isBool NonNeg
-  apart : (Surely a b isBool → ⊥) → ((a ⊑ b) ⊎ (b ⊑ a) → ⊥) → Equated a b isBool Zero
+pub data Equated (a b : Sign) (is_bool : Bool) : Sign → Type 0 where
+  sure : Surely a b is_bool → Equated a b is_bool Positive
+  maybe : (Surely a b is_bool → ⊥) → (a ⊑ b) ⊎ (b ⊑ a) → Equated a b is_bool NonNeg
+  apart : (Surely a b is_bool → ⊥) → ((a ⊑ b) ⊎ (b ⊑ a) → ⊥) → Equated a b is_bool Zero
 
 -- not of s, beside what the ported one says: Bottom for Bottom, NonNeg where else it is refused by 4, the same where it answers
 pub data Turned (s : Sign) : Answer Sign → Sign → Type 0 where

@@ -7,18 +7,18 @@ use Rattle.sign.specs.Sides.{filled, ◌inside◌, ◌same◌}
 use Rattle.sign.specs.Compared.{weakly}
 use Rattle.sign.specs.Ported as ported
 
-unfoldable pub weakCmp : Sign → Sign → Order
-weakCmp a b = weakly (ported.sub a b)
+unfoldable pub weak_cmp : Sign → Sign → Order
+weak_cmp a b = weakly (ported.sub a b)
 
 -- as ported, with Top for NonZero
-abbrev pub topForNonZero : Sign → Sign
-topForNonZero s = pick (s same NonZero) Top s
+abbrev pub top_for_non_zero : Sign → Sign
+top_for_non_zero s = pick (s same NonZero) Top s
 
 unfoldable pub div : Sign → Sign → Sign
-div a b = topForNonZero (ported.div a b)
+div a b = top_for_non_zero (ported.div a b)
 
-unfoldable pub logicalNot : Sign → Sign
-logicalNot s = pick (s same Bottom) Bottom (pick (s same Zero) Positive (pick (s same Positive) Zero NonNeg))
+unfoldable pub logical_not : Sign → Sign
+logical_not s = pick (s same Bottom) Bottom (pick (s same Zero) Positive (pick (s same Positive) Zero NonNeg))
 
 -- true if all differences lie in r, false if none does, else both; both too where there is none
 abbrev pub judged : Sign → Sign → Sign
@@ -33,8 +33,8 @@ less a b = judged Negative (ported.sub a b)
 unfoldable pub greater : Sign → Sign → Sign
 greater a b = judged Positive (ported.sub a b)
 
-unfoldable pub lessOrEqual : Sign → Sign → Sign
-lessOrEqual a b = judged NonPos (ported.sub a b)
+unfoldable pub less_or_equal : Sign → Sign → Sign
+less_or_equal a b = judged NonPos (ported.sub a b)
 
-unfoldable pub greaterOrEqual : Sign → Sign → Sign
-greaterOrEqual a b = judged NonNeg (ported.sub a b)
+unfoldable pub greater_or_equal : Sign → Sign → Sign
+greater_or_equal a b = judged NonNeg (ported.sub a b)

@@ -7,18 +7,18 @@ use Rattle.refusal.specs.Answer.{Answer, is, refused}
 use Rattle.sign.specs.declared.Sign.{Sign}
 use Rattle.sign.specs.declared.Sign.TheVariants.{Negative, Zero, Positive, NonNeg, NonPos}
 use Rattle.sign.specs.Set.{Side, negative, nought, positive, side_of, ◌has◌}
-use Rattle.sign.specs.Sides.{those, ◌inside◌, ◌same◌, withNought, opposite, sum, product, reached}
+use Rattle.sign.specs.Sides.{those, ◌inside◌, ◌same◌, with_nought, opposite, sum, product, reached}
 use Rattle.sign.specs.Compared.{strictly, weakly}
 
 -- ---- the sign of a number
 
-abbrev pub ofSide : Side → Sign
-ofSide negative = Negative
-ofSide nought = Zero
-ofSide positive = Positive
+abbrev pub of_side : Side → Sign
+of_side negative = Negative
+of_side nought = Zero
+of_side positive = Positive
 
-unfoldable pub ofNumber : ℤ → Sign
-ofNumber x = ofSide (side_of x)
+unfoldable pub of_number : ℤ → Sign
+of_number x = of_side (side_of x)
 
 -- ---- the lattice
 
@@ -61,35 +61,35 @@ div a b = quotient (mul a b)
 
 -- on the left's side, or 0
 unfoldable pub rem : Sign → Sign → Sign
-rem a b = withNought a
+rem a b = with_nought a
 
 -- ---- logic
 
 -- both are 0, or both are 1
 abbrev pub surely : Sign → Sign → Bool → Bool
-surely a b isBool = ((a same Zero) && (b same Zero)) || ((a same Positive) && ((b same Positive) && isBool))
+surely a b is_bool = ((a same Zero) && (b same Zero)) || ((a same Positive) && ((b same Positive) && is_bool))
 
-unfoldable pub logicalEq : Sign → Sign → Bool → Sign
-logicalEq a b isBool = pick (surely a b isBool) Positive (pick ((a inside b) || (b inside a)) NonNeg Zero)
+unfoldable pub logical_eq : Sign → Sign → Bool → Sign
+logical_eq a b is_bool = pick (surely a b is_bool) Positive (pick ((a inside b) || (b inside a)) NonNeg Zero)
 
-unfoldable pub logicalAnd : Sign → Sign → Sign
-logicalAnd a b = pick ((a same Zero) || (b same Zero)) Zero (pick ((a same Positive) && (b same Positive)) Positive NonNeg)
+unfoldable pub logical_and : Sign → Sign → Sign
+logical_and a b = pick ((a same Zero) || (b same Zero)) Zero (pick ((a same Positive) && (b same Positive)) Positive NonNeg)
 
-unfoldable pub logicalOr : Sign → Sign → Sign
-logicalOr a b = pick ((a same Positive) || (b same Positive)) Positive (pick ((a same Zero) && (b same Zero)) Zero NonNeg)
+unfoldable pub logical_or : Sign → Sign → Sign
+logical_or a b = pick ((a same Positive) || (b same Positive)) Positive (pick ((a same Zero) && (b same Zero)) Zero NonNeg)
 
 -- refused by 4 on the five signs on which the Rust panics
-unfoldable pub logicalNot : Sign → Answer Sign
-logicalNot s = pick (s same NonNeg) (is NonNeg) (pick (s same Positive) (is Zero) (pick (s same Zero) (is Positive) (refused 4)))
+unfoldable pub logical_not : Sign → Answer Sign
+logical_not s = pick (s same NonNeg) (is NonNeg) (pick (s same Positive) (is Zero) (pick (s same Zero) (is Positive) (refused 4)))
 
 -- ---- how their numbers compare, by where the differences lie
 
-unfoldable pub strictCmp : Sign → Sign → Order
-strictCmp a b = strictly (sub a b)
+unfoldable pub strict_cmp : Sign → Sign → Order
+strict_cmp a b = strictly (sub a b)
 
 -- the right rule but for two cells, which stand exchanged
-unfoldable pub weakCmp : Sign → Sign → Order
-weakCmp a b =
+unfoldable pub weak_cmp : Sign → Sign → Order
+weak_cmp a b =
     pick ((a same Zero) && (b same NonNeg)) (weakly (sub Zero NonPos))
     (pick ((a same Zero) && (b same NonPos)) (weakly (sub Zero NonNeg))
     (weakly (sub a b)))

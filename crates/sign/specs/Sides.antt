@@ -39,8 +39,8 @@ abbrev pub ◌same◌ : Sign → Sign → Bool
 s same t = (s inside t) && (t inside s)
 
 -- its own sides and 0, if it has any
-abbrev pub withNought : Sign → Sign
-withNought s = sign_of (s has negative) (filled s) (s has positive)
+abbrev pub with_nought : Sign → Sign
+with_nought s = sign_of (s has negative) (filled s) (s has positive)
 
 -- the side of -x, and the sides that x + y and x * y can have
 abbrev pub opposite : Side → Side

@@ -74,7 +74,7 @@ pub fn index_of(s: Sign) -> usize
 
 // The sign of a number.
 pub fn of_number(n: i64) -> Sign
-    ensures { result ≡ ports.ofNumber n }
+    ensures { result ≡ ports.of_number n }
 {
     if n < 0 {
         Sign::Negative

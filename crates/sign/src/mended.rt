@@ -8,7 +8,7 @@ use whole::Order;
 
 // The ported table with its two cells exchanged.
 pub fn weak_cmp(a: Sign, b: Sign) -> Order
-    ensures { result ≡ mends.weakCmp a b }
+    ensures { result ≡ mends.weak_cmp a b }
 {
     match a {
         Sign::Zero => match b {
@@ -32,7 +32,7 @@ pub fn div(a: Sign, b: Sign) -> Sign
 }
 
 pub fn logical_not(a: Sign) -> Sign
-    ensures { result ≡ mends.logicalNot a }
+    ensures { result ≡ mends.logical_not a }
 {
     match a {
         Sign::Bottom => Sign::Bottom,
@@ -89,13 +89,13 @@ pub fn greater(a: Sign, b: Sign) -> Sign
 }
 
 pub fn less_or_equal(a: Sign, b: Sign) -> Sign
-    ensures { result ≡ mends.lessOrEqual a b }
+    ensures { result ≡ mends.less_or_equal a b }
 {
     judged(Sign::NonPos, ported::sub(a, b))
 }
 
 pub fn greater_or_equal(a: Sign, b: Sign) -> Sign
-    ensures { result ≡ mends.greaterOrEqual a b }
+    ensures { result ≡ mends.greater_or_equal a b }
 {
     judged(Sign::NonNeg, ported::sub(a, b))
 }

@@ -150,7 +150,7 @@ fn surely_equal(a: Sign, b: Sign, is_bool: bool) -> bool
 
 // is_bool: both operands are 0 or 1, so that two positive ones are equal.
 pub fn logical_eq(a: Sign, b: Sign, is_bool: bool) -> Sign
-    ensures { result ≡ ports.logicalEq a b is_bool }
+    ensures { result ≡ ports.logical_eq a b is_bool }
 {
     if surely_equal(a, b, is_bool) {
         Sign::Positive
@@ -164,7 +164,7 @@ pub fn logical_eq(a: Sign, b: Sign, is_bool: bool) -> Sign
 }
 
 pub fn logical_and(a: Sign, b: Sign) -> Sign
-    ensures { result ≡ ports.logicalAnd a b }
+    ensures { result ≡ ports.logical_and a b }
 {
     match a {
         Sign::Zero => Sign::Zero,
@@ -181,7 +181,7 @@ pub fn logical_and(a: Sign, b: Sign) -> Sign
 }
 
 pub fn logical_or(a: Sign, b: Sign) -> Sign
-    ensures { result ≡ ports.logicalOr a b }
+    ensures { result ≡ ports.logical_or a b }
 {
     match a {
         Sign::Positive => Sign::Positive,
@@ -199,7 +199,7 @@ pub fn logical_or(a: Sign, b: Sign) -> Sign
 
 // Refused on the five signs on which the Rust panics.
 pub fn logical_not(a: Sign) -> SignAnswer
-    ensures { said result ≡ ports.logicalNot a }
+    ensures { said result ≡ ports.logical_not a }
 {
     match a {
         Sign::NonNeg => SignAnswer::Is(Sign::NonNeg),
@@ -212,7 +212,7 @@ pub fn logical_not(a: Sign) -> SignAnswer
 // ---- how their numbers compare
 
 pub fn strict_cmp(a: Sign, b: Sign) -> Order
-    ensures { result ≡ ports.strictCmp a b }
+    ensures { result ≡ ports.strict_cmp a b }
 {
     let i = index_of(a);
     let j = index_of(b);
@@ -220,7 +220,7 @@ pub fn strict_cmp(a: Sign, b: Sign) -> Order
 }
 
 pub fn weak_cmp(a: Sign, b: Sign) -> Order
-    ensures { result ≡ ports.weakCmp a b }
+    ensures { result ≡ ports.weak_cmp a b }
 {
     let i = index_of(a);
     let j = index_of(b);

@@ -28,16 +28,16 @@ use Rattle.step.specs.declared.Operator.{Operator}
 use Rattle.step.specs.declared.Outcome.{Outcome}
 use Rattle.step.specs.declared.Outcome.TheVariants.{Gives, Stops}
 use Rattle.step.specs.declared.show.Shown.{Shown}
-use Rattle.step.specs.Run.{runOp}
-use Rattle.step.specs.Range.{Answered, shows, declines, rangeOp}
-use Rattle.step.specs.Spacing.{spacingOp}
-use Rattle.step.specs.Signs.{signOp}
+use Rattle.step.specs.Run.{run_op}
+use Rattle.step.specs.Range.{Answered, shows, declines, range_op}
+use Rattle.step.specs.Spacing.{spacing_op}
+use Rattle.step.specs.Signs.{sign_op}
 use Rattle.step.specs.declared.show.ShownAnswer.{ShownAnswer}
 use Rattle.step.specs.declared.show.ShownAnswer.TheVariants as showns
 use Rattle.step.specs.declared.range.RangeAnswer.{RangeAnswer}
 use Rattle.step.specs.declared.range.RangeAnswer.TheVariants as ranges
-use Rattle.step.specs.Told.{rangeTold}
-use Rattle.step.specs.Show.{showOp, shown, beside, inputShown, zeroShown, shownTold}
+use Rattle.step.specs.Told.{range_told}
+use Rattle.step.specs.Show.{show_op, shown, beside, input_shown, zero_shown, shown_told}
 use Rattle.step.specs.Valid.{ValidOperator}
 use Rattle.step.specs.Fair.{GivesIn, given, StopsOn, Fair, passes, refuses}
 use Rattle.step.specs.Panel.{Panel, Stopped, Honest, gives-in, stops-by, Lawful}
@@ -52,11 +52,11 @@ number (given {n = n} h) = (n, refl, h)
 
 module _ (w : Width) (o : Operator) (s t u : Shown) (f : ValidOperator w o) (ps : GoodShown w s) (pt : GoodShown w t) (pu : GoodShown w u) where
   -- spacing and sign join a range that is fair
-  turned : {a : Answered Interval} → Fair w (runOp w o) s.range t.range u.range a →
-      Honest (stopping w) o s t u (beside (spacingOp w o s.range s.spacing t.spacing u.spacing) (signOp o s.range s.sign t.sign u.sign) a)
+  turned : {a : Answered Interval} → Fair w (run_op w o) s.range t.range u.range a →
+      Honest (stopping w) o s t u (beside (spacing_op w o s.range s.spacing t.spacing u.spacing) (sign_op o s.range s.sign t.sign u.sign) a)
   turned (passes {v = v} g p) = gives-in all (record { range = p; spacing = spacing-proper w s.range s.spacing t.spacing u.spacing ps.spacing pt.spacing pu.spacing o f })
     where
-      all : (x y z : ℤ) → InShown s x → InShown t y → InShown u z → (n : ℤ) × (runOp w o x y z ≡ Gives n) × InShown (shown v (spacingOp w o s.range s.spacing t.spacing u.spacing) (signOp o s.range s.sign t.sign u.sign)) n
+      all : (x y z : ℤ) → InShown s x → InShown t y → InShown u z → (n : ℤ) × (run_op w o x y z ≡ Gives n) × InShown (shown v (spacing_op w o s.range s.spacing t.spacing u.spacing) (sign_op o s.range s.sign t.sign u.sign)) n
       all x y z a b d =
           let (n, e, h) = number (g x y z a.range b.range d.range) in (
             n,
@@ -69,20 +69,20 @@ module _ (w : Width) (o : Operator) (s t u : Shown) (f : ValidOperator w o) (ps 
           )
   turned (refuses m) = stops-by (record { x = m.x; y = m.y; z = m.z; x-in = m.x-in; y-in = m.y-in; z-in = m.z-in; stop = m.stop })
 
-  pub honest : Honest (stopping w) o s t u (showOp w o s t u)
-  unfolding showOp
+  pub honest : Honest (stopping w) o s t u (show_op w o s t u)
+  unfolding show_op
   honest = turned (fair ps.range pt.range pu.range o f)
 
   -- v is shown: every run on numbers of the operands gives a number, and it lies in v
-  pub show-sound : (v : Shown) → showOp w o s t u ≡ shows v → (x y z : ℤ) → InShown s x → InShown t y → InShown u z → (n : ℤ) × (runOp w o x y z ≡ Gives n) × InShown v n
+  pub show-sound : (v : Shown) → show_op w o s t u ≡ shows v → (x y z : ℤ) → InShown s x → InShown t y → InShown u z → (n : ℤ) × (run_op w o x y z ≡ Gives n) × InShown v n
   show-sound v e = by_answer honest e
     where
-      by_answer : {a : Answered Shown} → Honest (stopping w) o s t u a → a ≡ shows v → (x y z : ℤ) → InShown s x → InShown t y → InShown u z → (n : ℤ) × (runOp w o x y z ≡ Gives n) × InShown v n
-      by_answer (gives-in {v = v'} g p) e x y z a b d = let q : v' ≡ v = cc in subst (λ k. (n : ℤ) × (runOp w o x y z ≡ Gives n) × InShown k n) q (g x y z a b d)
+      by_answer : {a : Answered Shown} → Honest (stopping w) o s t u a → a ≡ shows v → (x y z : ℤ) → InShown s x → InShown t y → InShown u z → (n : ℤ) × (run_op w o x y z ≡ Gives n) × InShown v n
+      by_answer (gives-in {v = v'} g p) e x y z a b d = let q : v' ≡ v = cc in subst (λ k. (n : ℤ) × (run_op w o x y z ≡ Gives n) × InShown k n) q (g x y z a b d)
       by_answer (stops-by m) e x y z a b d = let q : ◌≡◌ {A = ℕ} 0 1 = cc in absurd (omega arith)
 
   -- refused by r: the operands' ranges hold numbers, each drawn from its own, on which the run stops by r
-  pub show-refuses : (r : Refusal) → showOp w o s t u ≡ declines r → Stopped (stopping w) o s t u r
+  pub show-refuses : (r : Refusal) → show_op w o s t u ≡ declines r → Stopped (stopping w) o s t u r
   show-refuses r e = by_answer honest e
     where
       by_answer : {a : Answered Shown} → Honest (stopping w) o s t u a → a ≡ declines r → Stopped (stopping w) o s t u r
@@ -92,15 +92,15 @@ module _ (w : Width) (o : Operator) (s t u : Shown) (f : ValidOperator w o) (ps 
 -- ---- inputs
 
 module _ (w : Width) (l h : ℤ) (p : Proper w (l ⋯ h)) where
-  input-good : GoodShown w (inputShown l h)
-  unfolding inputShown
+  input-good : GoodShown w (input_shown l h)
+  unfolding input_shown
   input-good = record {
     range = p;
     spacing = branch (eq_test l h) (ProperSpacing w) (λ e. sets.single-proper w l (fits w l p.above (omega (ints, p.ordered, p.below)))) (λ n. sets.top-proper w);
   }
 
-  input-has : (x : ℤ) → l ≤ℤ x → x ≤ℤ h → InShown (inputShown l h) x
-  unfolding inputShown
+  input-has : (x : ℤ) → l ≤ℤ x → x ≤ℤ h → InShown (input_shown l h) x
+  unfolding input_shown
   input-has x a b = record {
     range = record { low = a; high = b };
     spacing = branch (eq_test l h) (λ v. x ∈ˢ v) (λ e. let f : x ≡ l = omega ints in rw f (sets.alone-in l)) (λ n. sets.all x);
@@ -118,24 +118,24 @@ lawful w = record {
 
 -- ---- what is told is one answer's
 
-abbrev rangeBack : Answered Interval → RangeAnswer
-rangeBack (shows v) = ranges.Shows v
-rangeBack (declines r) = ranges.Declines r
+abbrev range_of_told : Answered Interval → RangeAnswer
+range_of_told (shows v) = ranges.Shows v
+range_of_told (declines r) = ranges.Declines r
 
-abbrev shownBack : Answered Shown → ShownAnswer
-shownBack (shows v) = showns.Shows v
-shownBack (declines r) = showns.Declines r
+abbrev shown_back : Answered Shown → ShownAnswer
+shown_back (shows v) = showns.Shows v
+shown_back (declines r) = showns.Declines r
 
-range_back : (r : RangeAnswer) → rangeBack (rangeTold r) ≡ r
+range_back : (r : RangeAnswer) → range_of_told (range_told r) ≡ r
 range_back (ranges.Shows v) = refl
 range_back (ranges.Declines r) = refl
 
-shown-back : (r : ShownAnswer) → shownBack (shownTold r) ≡ r
+shown-back : (r : ShownAnswer) → shown_back (shown_told r) ≡ r
 shown-back (showns.Shows v) = refl
 shown-back (showns.Declines r) = refl
 
-pub range-fixed : (r r' : RangeAnswer) → rangeTold r ≡ rangeTold r' → r ≡ r'
-range-fixed r r' h = sym (range_back r) ∙ ap rangeBack h ∙ range_back r'
+pub range-fixed : (r r' : RangeAnswer) → range_told r ≡ range_told r' → r ≡ r'
+range-fixed r r' h = sym (range_back r) ∙ ap range_of_told h ∙ range_back r'
 
-pub shown-fixed : (r r' : ShownAnswer) → shownTold r ≡ shownTold r' → r ≡ r'
-shown-fixed r r' h = sym (shown-back r) ∙ ap shownBack h ∙ shown-back r'
+pub shown-fixed : (r r' : ShownAnswer) → shown_told r ≡ shown_told r' → r ≡ r'
+shown-fixed r r' h = sym (shown-back r) ∙ ap shown_back h ∙ shown-back r'

@@ -29,8 +29,8 @@ use Rattle.step.specs.declared.Operator.{Operator}
 use Rattle.step.specs.declared.Operator.TheVariants.{Constant, Add, Sub, Mul, Div, Rem, Equals, And, Or, Less, Greater, LessOrEqual, GreaterOrEqual, Not, Same, Choose}
 use Rattle.step.specs.declared.Outcome.{Outcome}
 use Rattle.step.specs.declared.Outcome.TheVariants.{Gives, Stops}
-use Rattle.step.specs.Run.{runOp}
-use Rattle.step.specs.Range.{Answered, shows, declines, chosenBy, rangeOp}
+use Rattle.step.specs.Run.{run_op}
+use Rattle.step.specs.Range.{Answered, shows, declines, chosen_by, range_op}
 use Rattle.step.specs.Valid.{ValidOperator}
 use Rattle.step.specs.Fair.{GivesIn, given, StopsOn, Fair, passes, refuses}
 use Rattle.step.proofs.Shapes.{sure, compared, arithmetic, division, Shows, shows-all, first, second, verdict-proper}
@@ -51,17 +51,17 @@ module _ {w : Width} {i j k : Interval} (p : Proper w i) (q : Proper w j) (r : P
   remainder-shows : pos 0 ∉ j → ((x y : ℤ) → x ∈ i → y ∈ j → quot_z x y ∈ top w) → Shows p q r rem_z (M.rem w i j)
   remainder-shows nz c = shows-all p q r ((rem-rule w).full p q).covers (rem-canonical (some p) (some q)) (λ m. not-these w m (c i.min j.min (low-in p.ordered) (low-in q.ordered))) (λ x y s t. other t nz)
 
-  chosen : (x y z : ℤ) → x ∈ i → y ∈ j → z ∈ k → pick (x ≟ pos 1) y z ∈ chosenBy i j k (join j k)
+  chosen : (x y z : ℤ) → x ∈ i → y ∈ j → z ∈ k → pick (x ≟ pos 1) y z ∈ chosen_by i j k (join j k)
   chosen x y z s t u =
-      branch (eq_test x (pos 1)) (λ n. n ∈ chosenBy i j k (join j k))
+      branch (eq_test x (pos 1)) (λ n. n ∈ chosen_by i j k (join j k))
       (λ e. branch (only-test i (pos 1)) (λ v. y ∈ v) (λ _. t) λ _. branch (only-test i (pos 0)) (λ v. y ∈ v) (λ h. absurd (omega ints)) (λ _. join-left j k t))
       (λ e. branch (only-test i (pos 1)) (λ v. z ∈ v) (λ h. absurd (e (omega ints))) λ _. branch (only-test i (pos 0)) (λ v. z ∈ v) (λ _. u) (λ _. join-right j k u))
 
-  chosen-proper : Proper w (chosenBy i j k (join j k))
+  chosen-proper : Proper w (chosen_by i j k (join j k))
   chosen-proper = branch (only-test i (pos 1)) (Proper w) (λ _. q) λ _. branch (only-test i (pos 0)) (Proper w) (λ _. r) (λ _. join-proper q r)
 
-  pub fair : (o : Operator) → ValidOperator w o → Fair w (runOp w o) i j k (rangeOp w o i j k)
-  unfolding runOp rangeOp
+  pub fair : (o : Operator) → ValidOperator w o → Fair w (run_op w o) i j k (range_op w o i j k)
+  unfolding run_op range_op
   fair (Constant n) f = sure p q r (λ x y z s t u. self n) (single-proper f)
   fair Add f = arithmetic p q r ((add-exact w).full p q)
   fair Sub f = arithmetic p q r ((sub-exact w).full p q)

@@ -26,7 +26,7 @@ use Rattle.interval.proofs.Canonical.{nothing}
 use Rattle.interval.proofs.Remainders.{min-by-minus-one, quotient_fits}
 use Rattle.step.specs.Run as S
 use Rattle.step.specs.Run.{bits, divided, logical}
-use Rattle.step.specs.Range.{Answered, shows, declines, fittingAll, dividedAll, logicalAll}
+use Rattle.step.specs.Range.{Answered, shows, declines, fitting_all, divided_all, logical_all}
 use Rattle.step.specs.declared.Outcome.{Outcome}
 use Rattle.step.specs.declared.Outcome.TheVariants.{Gives, Stops}
 use Rattle.step.specs.Fair.{GivesIn, given, StopsOn, Fair, passes, refuses}
@@ -60,7 +60,7 @@ module _ {w : Width} {i j k : Interval} (p : Proper w i) (q : Proper w j) (r : P
     told-proper (never h) = proper (omega ints) (omega (ints, signs w)) (omega (ints, signs w))
     told-proper (sometimes h k) = proper (omega ints) (omega (ints, signs w)) (one-fits w)
 
-    pub compared : {a : Answer Interval} → Judged P N i j a → Fair w (λ x y z. Gives (truth (test x y))) i j k (fittingAll a)
+    pub compared : {a : Answer Interval} → Judged P N i j a → Fair w (λ x y z. Gives (truth (test x y))) i j k (fitting_all a)
     compared (judged h) = sure (λ x y z s t u. told_in h x y s t) (told-proper h)
 
   -- ---- stops by 13 where the result doesn't fit
@@ -70,7 +70,7 @@ module _ {w : Width} {i j k : Interval} (p : Proper w i) (q : Proper w j) (r : P
   fitting-stops : {n m : ℤ} → m ≡ n → n ∉ top w → S.fitting w m ≡ Stops ResultTooWide
   fitting-stops e c = rw (e, not_in c)
 
-  pub arithmetic : {f : ℤ → ℤ → ℤ} {a : Answer Interval} → Exact w f i j a → Fair w (λ x y z. S.fitting w (f x y)) i j k (fittingAll a)
+  pub arithmetic : {f : ℤ → ℤ → ℤ} {a : Answer Interval} → Exact w f i j a → Fair w (λ x y z. S.fitting w (f x y)) i j k (fitting_all a)
   arithmetic (fitting l pv) = passes (λ x y z s t u. fitting-gives pv (l.covers x y s t)) pv
   arithmetic (too_wide v l (inl c)) = at l.low-is.left l.low-is.right l.low-is.left_in l.low-is.right-in (fitting-stops l.low-is.at c)
   arithmetic (too_wide v l (inr c)) = at l.high_is.left l.high_is.right l.high_is.left_in l.high_is.right-in (fitting-stops l.high_is.at c)
@@ -100,7 +100,7 @@ module _ {w : Width} {i j k : Interval} (p : Proper w i) (q : Proper w j) (r : P
       shown (λ x y s t. c x y s t (g x y s t)) (has-number k h)
   shows-all (refusing m) k f g = absurd (f m)
 
-  pub division : (n : ℤ → ℤ → ℤ) {a : Answer Interval} → (pos 0 ∉ j → ((x y : ℤ) → x ∈ i → y ∈ j → quot_z x y ∈ top w) → Shows n a) → Fair w (λ x y z. divided w x y (n x y)) i j k (dividedAll w i j (fittingAll a))
+  pub division : (n : ℤ → ℤ → ℤ) {a : Answer Interval} → (pos 0 ∉ j → ((x y : ℤ) → x ∈ i → y ∈ j → quot_z x y ∈ top w) → Shows n a) → Fair w (λ x y z. divided w x y (n x y)) i j k (divided_all w i j (fitting_all a))
   division n {a} f =
       branch (in-test (pos 0) j) F (λ h. at i.min (pos 0) (low-in p.ordered) h (rw (equal (pos 0)))) λ nz.
       branch (both (in-test (least w) i) (in-test (negsuc 0) j)) F (λ h. at (least w) (negsuc 0) h.0 h.1 (rw (unequal {x = negsuc 0} {y = pos 0} (λ e. omega ints), not_in (min-by-minus-one w)))) λ c.
@@ -109,7 +109,7 @@ module _ {w : Width} {i j k : Interval} (p : Proper w i) (q : Proper w j) (r : P
       F : Answered Interval → Type 0
       F = Fair w (λ x y z. divided w x y (n x y)) i j k
 
-      through : {a : Answer Interval} → pos 0 ∉ j → ((x y : ℤ) → x ∈ i → y ∈ j → quot_z x y ∈ top w) → Shows n a → F (fittingAll a)
+      through : {a : Answer Interval} → pos 0 ∉ j → ((x y : ℤ) → x ∈ i → y ∈ j → quot_z x y ∈ top w) → Shows n a → F (fitting_all a)
       through nz c (shown {v = v} g pv) = passes {v = v} (λ x y z s t u. rw (unequal (other t nz), is-in (c x y s t)) (given (g x y s t))) pv
 
   -- ---- logic: stops by 14 where an operand is neither 0 nor 1. The guard on the first operand, and on the second, over any run
@@ -124,7 +124,7 @@ module _ {w : Width} {i j k : Interval} (p : Proper w i) (q : Proper w j) (r : P
   inside-test v = weaken (λ h. h) (⊎_map inl inr) (both (le_test _ _) (le_test _ _))
 
   module _ {run : ℤ → ℤ → ℤ → Outcome} {a : Answered Interval} where
-    pub first : (Inside i → Fair w run i j k a) → Fair w (λ x y z. logical x (run x y z)) i j k (logicalAll i a)
+    pub first : (Inside i → Fair w run i j k a) → Fair w (λ x y z. logical x (run x y z)) i j k (logical_all i a)
     first f = branch (inside-test i) F (λ b. through b (f b)) stop
       where
         F : Answered Interval → Type 0
@@ -138,7 +138,7 @@ module _ {w : Width} {i j k : Interval} (p : Proper w i) (q : Proper w j) (r : P
         stop (inl c) = at i.min j.min (low-in p.ordered) (low-in q.ordered) (rw (not_in c))
         stop (inr c) = at i.max j.min (high-in p.ordered) (low-in q.ordered) (rw (not_in c))
 
-    pub second : (Inside j → Fair w run i j k a) → Fair w (λ x y z. logical y (run x y z)) i j k (logicalAll j a)
+    pub second : (Inside j → Fair w run i j k a) → Fair w (λ x y z. logical y (run x y z)) i j k (logical_all j a)
     second f = branch (inside-test j) F (λ b. through b (f b)) stop
       where
         F : Answered Interval → Type 0

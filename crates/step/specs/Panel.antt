@@ -17,7 +17,7 @@ pub record Panel : Type 1 where
   pub Good : Shown → Type 0
   -- the number 0, which stands past the last step
   pub zero : Shown
-  pub ofInput : ℤ → ℤ → Shown
+  pub of_input : ℤ → ℤ → Shown
   pub Valid : Operator → Type 0
   pub ValidInput : ℤ → ℤ → Type 0
   pub run : Operator → ℤ → ℤ → ℤ → Outcome
@@ -41,6 +41,6 @@ pub data Honest (P : Panel) (o : Operator) (s t u : P.Shown) : Answered P.Shown 
 pub record Lawful (P : Panel) : Type 0 where
   pub zero_has : P.Has P.zero (pos 0)
   pub zero-good : P.Good P.zero
-  pub input-good : (l h : ℤ) → P.ValidInput l h → P.Good (P.ofInput l h)
-  pub input-has : (l h x : ℤ) → P.ValidInput l h → l ≤ℤ x → x ≤ℤ h → P.Has (P.ofInput l h) x
+  pub input-good : (l h : ℤ) → P.ValidInput l h → P.Good (P.of_input l h)
+  pub input-has : (l h x : ℤ) → P.ValidInput l h → l ≤ℤ x → x ≤ℤ h → P.Has (P.of_input l h) x
   pub honest : (o : Operator) (s t u : P.Shown) → P.Valid o → P.Good s → P.Good t → P.Good u → Honest P o s t u (P.show o s t u)

@@ -14,32 +14,32 @@ use Rattle.step.specs.declared.Operator.{Operator}
 use Rattle.step.specs.declared.show.Shown.{Shown}
 use Rattle.step.specs.declared.show.ShownAnswer.{ShownAnswer}
 use Rattle.step.specs.declared.show.ShownAnswer.TheVariants.{Shows, Declines}
-use Rattle.step.specs.Range.{Answered, shows, declines, rangeOp}
-use Rattle.step.specs.Spacing.{spacingOp}
-use Rattle.step.specs.Signs.{signOp}
+use Rattle.step.specs.Range.{Answered, shows, declines, range_op}
+use Rattle.step.specs.Spacing.{spacing_op}
+use Rattle.step.specs.Signs.{sign_op}
 
 abbrev pub shown : Interval → Congruence → Sign → Shown
 shown i c s = record { range = i; spacing = c; sign = s }
 
-abbrev pub shownTold : ShownAnswer → Answered Shown
-shownTold (Shows v) = shows v
-shownTold (Declines r) = declines r
+abbrev pub shown_told : ShownAnswer → Answered Shown
+shown_told (Shows v) = shows v
+shown_told (Declines r) = declines r
 
 -- spacing and sign beside a range that is shown
 abbrev pub beside : Congruence → Sign → Answered Interval → Answered Shown
 beside c s (shows v) = shows (shown v c s)
 beside c s (declines r) = declines r
 
-unfoldable pub showOp : Width → Operator → Shown → Shown → Shown → Answered Shown
-showOp w o s t u =
+unfoldable pub show_op : Width → Operator → Shown → Shown → Shown → Answered Shown
+show_op w o s t u =
     beside
-    (spacingOp w o s.range s.spacing t.spacing u.spacing)
-    (signOp o s.range s.sign t.sign u.sign)
-    (rangeOp w o s.range t.range u.range)
+    (spacing_op w o s.range s.spacing t.spacing u.spacing)
+    (sign_op o s.range s.sign t.sign u.sign)
+    (range_op w o s.range t.range u.range)
 
-unfoldable pub inputShown : ℤ → ℤ → Shown
-inputShown l h = shown (l ⋯ h) (pick (l ≟ h) (cong l (pos 0)) top) (sign_of (l ⋯ h))
+unfoldable pub input_shown : ℤ → ℤ → Shown
+input_shown l h = shown (l ⋯ h) (pick (l ≟ h) (cong l (pos 0)) top) (sign_of (l ⋯ h))
 
 -- the number 0, which stands past the last step
-abbrev pub zeroShown : Shown
-zeroShown = shown (single (pos 0)) (cong (pos 0) (pos 0)) Zero
+abbrev pub zero_shown : Shown
+zero_shown = shown (single (pos 0)) (cong (pos 0) (pos 0)) Zero

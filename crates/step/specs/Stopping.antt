@@ -5,8 +5,8 @@ use Rattle.interval.specs.Set.{◌⋯◌, Proper, ◌∈◌ as ◌∈ʳ◌}
 use Rattle.congruence.specs.Set.{◌∈◌ as ◌∈ˢ◌, Proper as ProperSpacing}
 use Rattle.sign.specs.Set.{◌∈◌ as ◌∈ᵍ◌}
 use Rattle.step.specs.declared.show.Shown.{Shown}
-use Rattle.step.specs.Run.{runOp}
-use Rattle.step.specs.Show.{showOp, inputShown, zeroShown}
+use Rattle.step.specs.Run.{run_op}
+use Rattle.step.specs.Show.{show_op, input_shown, zero_shown}
 use Rattle.step.specs.Valid.{ValidOperator}
 use Rattle.step.specs.Panel.{Panel}
 
@@ -27,10 +27,10 @@ stopping w = record {
   Has = InShown;
   Drawn = λ v x. x ∈ʳ v.range;
   Good = GoodShown w;
-  zero = zeroShown;
-  ofInput = inputShown;
+  zero = zero_shown;
+  of_input = input_shown;
   Valid = ValidOperator w;
   ValidInput = λ l h. Proper w (l ⋯ h);
-  run = runOp w;
-  show = showOp w;
+  run = run_op w;
+  show = show_op w;
 }

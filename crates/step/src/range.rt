@@ -3,8 +3,8 @@ ghost use Rattle.std.specs.Prelude.{◌≡◌};
 ghost use Rattle.whole.specs.Sized.{width_of};
 ghost use Rattle.interval.specs.Answer.{told};
 ghost use Rattle.interval.specs.Mended.{join};
-ghost use Rattle.step.specs.Range.{fittingAll, dividedAll, logicalAll, chosenBy, rangeOp};
-ghost use Rattle.step.specs.Told.{rangeTold};
+ghost use Rattle.step.specs.Range.{fitting_all, divided_all, logical_all, chosen_by, range_op};
+ghost use Rattle.step.specs.Told.{range_told};
 
 use crate::Operator;
 use interval::{Interval, IntervalAnswer};
@@ -20,7 +20,7 @@ pub enum RangeAnswer {
 
 // 13, where the mended operation doesn't fit.
 fn fitting(a: IntervalAnswer) -> RangeAnswer
-    ensures { rangeTold result ≡ fittingAll (told a) }
+    ensures { range_told result ≡ fitting_all (told a) }
 {
     match a {
         IntervalAnswer::Is(v) => RangeAnswer::Shows(v),
@@ -30,7 +30,7 @@ fn fitting(a: IntervalAnswer) -> RangeAnswer
 
 // 12 where the divisor's range holds 0, 13 where MIN and -1 can meet.
 fn divided(size: Size, i: Interval, j: Interval, a: RangeAnswer) -> RangeAnswer
-    ensures { rangeTold result ≡ dividedAll (width_of size) i j (rangeTold a) }
+    ensures { range_told result ≡ divided_all (width_of size) i j (range_told a) }
 {
     if j.holds(0) {
         return RangeAnswer::Declines(Refusal::DivisorZero);
@@ -45,7 +45,7 @@ fn divided(size: Size, i: Interval, j: Interval, a: RangeAnswer) -> RangeAnswer
 
 // 14 where the operand's range isn't inside [0, 1].
 fn logical(i: Interval, a: RangeAnswer) -> RangeAnswer
-    ensures { rangeTold result ≡ logicalAll i (rangeTold a) }
+    ensures { range_told result ≡ logical_all i (range_told a) }
 {
     if 0 <= i.min {
         if i.max <= 1 {
@@ -57,7 +57,7 @@ fn logical(i: Interval, a: RangeAnswer) -> RangeAnswer
 
 // The range of what is chosen by a condition.
 fn choice(i: Interval, j: Interval, k: Interval) -> Interval
-    ensures { result ≡ chosenBy i j k (join j k) }
+    ensures { result ≡ chosen_by i j k (join j k) }
 {
     if i.is_only(1) {
         return j;
@@ -70,7 +70,7 @@ fn choice(i: Interval, j: Interval, k: Interval) -> Interval
 
 // The range that the operator shows on operands of these ranges.
 pub fn range(size: Size, operator: Operator, i: Interval, j: Interval, k: Interval) -> RangeAnswer
-    ensures { rangeTold result ≡ rangeOp (width_of size) operator i j k }
+    ensures { range_told result ≡ range_op (width_of size) operator i j k }
 {
     match operator {
         Operator::Constant(n) => RangeAnswer::Shows(Interval { min: n, max: n }),

@@ -1,7 +1,7 @@
 // What a step shows: a range, a spacing and a sign, or a refusal.
 ghost use Rattle.std.specs.Prelude.{◌≡◌};
 ghost use Rattle.whole.specs.Sized.{width_of};
-ghost use Rattle.step.specs.Show.{showOp, inputShown, shownTold};
+ghost use Rattle.step.specs.Show.{show_op, input_shown, shown_told};
 
 use crate::Operator;
 use crate::range::RangeAnswer;
@@ -48,7 +48,7 @@ pub enum ShownAnswer {
 
 // What an input shows: its range, the number itself if there is but one, and the sign of the range.
 pub fn input(low: i64, high: i64) -> Shown
-    ensures { result ≡ inputShown low high }
+    ensures { result ≡ input_shown low high }
 {
     let range = Interval {
         min: low,
@@ -72,7 +72,7 @@ pub fn input(low: i64, high: i64) -> Shown
 
 // What the operator shows on operands that show s, t and u.
 pub fn show(size: Size, operator: Operator, s: Shown, t: Shown, u: Shown) -> ShownAnswer
-    ensures { shownTold result ≡ showOp (width_of size) operator s t u }
+    ensures { shown_told result ≡ show_op (width_of size) operator s t u }
 {
     let i = s.range;
     let a = s.sign;

@@ -16,13 +16,13 @@ use borrow.Author.Tests.{lt-ltb, le-ltb, ne_eqb}
 use Rattle.text.specs.declared.decimal.Digits.TheVariants.{Value}
 use Rattle.text.specs.declared.decimal.Got.TheVariants.{Number}
 use Rattle.text.specs.Decimal.{digits, decimal}
-use Rattle.text.specs.Number.{NoDigit, digitOf, total, many, digitsAt, minusAt, plusAt, number_at}
+use Rattle.text.specs.Number.{NoDigit, digit_of, total, many, digits_at, minus_at, plus_at, number_at}
 use Rattle.text.proofs.Digits.{lt-or-le}
 use Rattle.text.proofs.Digits.{digits_last, digits_more, longer, a-digit}
 use Rattle.text.proofs.Reading.{value}
 
 -- a digit's byte is that digit
-glyph : (d : ℕ) → d < 10 → digitOf (48 + d) ≡ d
+glyph : (d : ℕ) → d < 10 → digit_of (48 + d) ≡ d
 glyph d h =
     let a : 48 ≤ 48 + d = omega arith in
     let b : 48 + d ≤ 57 = omega arith in
@@ -83,12 +83,12 @@ many-digits (suc k) n r h = ⊎_elim (many-small n r) (λ l. many-large n r l (�
 total-none : (r : List ℕ) (v : ℕ) → NoDigit r → total r v ≡ v
 unfolding total
 total-none [] v h = refl
-total-none (b ∷ r) v h = rw (lt-ltb 9 (digitOf b) h)
+total-none (b ∷ r) v h = rw (lt-ltb 9 (digit_of b) h)
 
 many-none : (r : List ℕ) → NoDigit r → many r ≡ 0
 unfolding many
 many-none [] h = refl
-many-none (b ∷ r) h = rw (lt-ltb 9 (digitOf b) h)
+many-none (b ∷ r) h = rw (lt-ltb 9 (digit_of b) h)
 
 -- digits do not begin with `-`
 no_minus : (x : List ℕ) → 0 < many x → eqb (get_or x 0 0) 45 ≡ false
@@ -100,21 +100,21 @@ module _ (s r : List ℕ) (at n : ℕ) (end : NoDigit r) (here : drop at s ≡ d
   many-here : many (drop at s) ≡ length (digits n)
   many-here = ap many here ∙ many-digits n n r (le_refl n) ∙ rw (many-none r end) (omega arith)
 
-  digits-here : n ≤ 2 ^ 63 → digitsAt s at ≡ Value n (at + length (digits n))
+  digits-here : n ≤ 2 ^ 63 → digits_at s at ≡ Value n (at + length (digits n))
   digits-here h =
       value s at n (at + length (digits n)) (λ z. omega (arith, many-here, a-digit n))
       (ap (λ (x : List ℕ). total x 0) here ∙ total-digits n n r (le_refl n) ∙ total-none r n end)
       (ap (λ (k : ℕ). at + k) many-here) h
 
-  plus-here : n < 2 ^ 63 → plusAt s at ≡ Number (pos n) (at + length (digits n))
-  unfolding plusAt
+  plus-here : n < 2 ^ 63 → plus_at s at ≡ Number (pos n) (at + length (digits n))
+  unfolding plus_at
   plus-here h =
       let l : n ≤ 2 ^ 63 = omega arith in
       let b : n ≤ 2 ^ 63 - 1 = omega arith in
       rw (digits-here l, le-ltb (2 ^ 63 - 1) n b)
 
-minus-here : (s r : List ℕ) (at n : ℕ) → NoDigit r → drop at s ≡ digits (suc n) ++ r → n < 2 ^ 63 → minusAt s at ≡ Number (negsuc n) (at + length (digits (suc n)))
-unfolding minusAt
+minus-here : (s r : List ℕ) (at n : ℕ) → NoDigit r → drop at s ≡ digits (suc n) ++ r → n < 2 ^ 63 → minus_at s at ≡ Number (negsuc n) (at + length (digits (suc n)))
+unfolding minus_at
 minus-here s r at n end here h =
     let b : suc n ≤ 2 ^ 63 = omega arith in
     rw (digits-here s r at (suc n) end here b, le-ltb (2 ^ 63) (suc n) b)

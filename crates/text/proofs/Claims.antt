@@ -11,12 +11,12 @@ use mir.Syntax.{Width, w64}
 use mir.Val.{SFits}
 use borrow.Author.Tests.{le-leb}
 use Rattle.text.specs.declared.decimal.Got.TheVariants.{Number}
-use Rattle.text.specs.Room.{putBytes}
+use Rattle.text.specs.Room.{put_bytes}
 use Rattle.text.specs.Decimal.{decimal}
 use Rattle.text.specs.Number.{NoDigit, number_at}
-use Rattle.text.specs.End.{endText}
-use Rattle.text.specs.Hex.{NoNibble, hexText, hexBytes}
-use Rattle.text.specs.Word.{Letters, NoLetter, begins, word_of, firstCode, secondCode}
+use Rattle.text.specs.End.{end_text}
+use Rattle.text.specs.Hex.{NoNibble, hex_text, hex_bytes}
+use Rattle.text.specs.Word.{Letters, NoLetter, begins, word_of, first_code, second_code}
 use Rattle.text.proofs.Back.{there, alone}
 use Rattle.text.proofs.Ends.{end_of, same_end}
 use Rattle.text.proofs.Pairs.{bytes-of-text, none_here}
@@ -31,8 +31,8 @@ decimal-back before after z f end = there (before ++ (decimal z ++ after)) after
 
 -- the same of a lent buffer
 pub decimal-put-back : (out : List ℕ) (at : ℕ) (z : ℤ) → SFits w64 z → at + length (decimal z) ≤ length out → NoDigit (drop (at + length (decimal z)) out)
-    → number_at (putBytes out at (decimal z)) at ≡ Number z (at + length (decimal z))
-unfolding putBytes
+    → number_at (put_bytes out at (decimal z)) at ≡ Number z (at + length (decimal z))
+unfolding put_bytes
 decimal-put-back out at z f h end =
     let l : at ≤ length out = omega arith in
     let a : length (take at out) ≡ at = length-take-le at out l in
@@ -48,15 +48,15 @@ decimal-one x y f g e =
 
 -- ---- the ends of a range: two ends with the same text are the same number
 
-pub end-one : (w : Width) (x y : ℤ) → SFits w64 x → SFits w64 y → endText w x ≡ endText w y → x ≡ y
+pub end-one : (w : Width) (x y : ℤ) → SFits w64 x → SFits w64 y → end_text w x ≡ end_text w y → x ≡ y
 end-one w x y f g e = same_end f g (end_of w x) (end_of w y) e (decimal-one x y f g)
 
 -- ---- hexadecimal
 
 pub hex-back : (before after bs : List ℕ) → ((i : ℕ) → get_or bs i 0 < 256) → NoNibble after
-    → hexBytes (drop (length before) (before ++ (hexText bs ++ after))) ≡ bs
+    → hex_bytes (drop (length before) (before ++ (hex_text bs ++ after))) ≡ bs
 hex-back before after bs f end =
-    rw (drop-append_seam before (hexText bs ++ after)) (bytes-of-text bs after f ∙ rw (none_here after end) (append-nil bs))
+    rw (drop-append_seam before (hex_text bs ++ after)) (bytes-of-text bs after f ∙ rw (none_here after end) (append-nil bs))
 
 -- ---- words
 
@@ -66,7 +66,7 @@ word_back before after w l end =
     rw (drop-append_seam before (w ++ after), letters-of-word w after l end) (take_at w after (length w) refl)
 
 -- a word of at most sixteen bytes is known by its two numbers
-pub word-one : (w u : List ℕ) → Letters w → Letters u → length w ≤ 16 → length u ≤ 16 → firstCode w ≡ firstCode u → secondCode w ≡ secondCode u → w ≡ u
+pub word-one : (w u : List ℕ) → Letters w → Letters u → length w ≤ 16 → length u ≤ 16 → first_code w ≡ first_code u → second_code w ≡ second_code u → w ≡ u
 word-one w u a b = same_word w u (bytes_of w a) (bytes_of u b)
 
 -- `begins` says that a word stands at the start

@@ -7,7 +7,7 @@ use lib.Dec.{eqb}
 use lib.ListN.{length, take, drop, length-take, length-drop, take-append-drop}
 use borrow.Author.Tests.{le-ltb, ne_eqb}
 use Rattle.whole.specs.Choice.{pick}
-use Rattle.text.specs.Word.{Letters, coded, code_of, firstCode, secondCode}
+use Rattle.text.specs.Word.{Letters, coded, code_of, first_code, second_code}
 use Rattle.text.proofs.Words.{first_two, second-two}
 
 -- bytes, none of which is 0
@@ -66,7 +66,7 @@ bytes_drop zero xs b = b
 bytes_drop (suc n) [] none = none
 bytes_drop (suc n) (x ∷ xs) (more p l b) = bytes_drop n xs b
 
-pub same_word : (w u : List ℕ) → Bytes w → Bytes u → length w ≤ 16 → length u ≤ 16 → firstCode w ≡ firstCode u → secondCode w ≡ secondCode u → w ≡ u
+pub same_word : (w u : List ℕ) → Bytes w → Bytes u → length w ≤ 16 → length u ≤ 16 → first_code w ≡ first_code u → second_code w ≡ second_code u → w ≡ u
 same_word w u a b h g e f =
     let t : take 8 w ≡ take 8 u =
     same_code (take 8 w) (take 8 u) (bytes_take 8 w a) (bytes_take 8 u b) (omega (arith, length-take 8 w)) (omega (arith, length-take 8 u)) (sym (first_two w h) ∙ e ∙ first_two u g) in

@@ -9,7 +9,7 @@ use lib.Seq.{sets, set_comm}
 use mathlib.Core.Bool.{Bool, true, false}
 use lib.Dec.{ltb}
 use borrow.Author.Tests.{lt-ltb, le-ltb, ltb-true, ltb-false}
-use Rattle.text.specs.Decimal.{digitsIn, digits}
+use Rattle.text.specs.Decimal.{digits_in, digits}
 
 by-test : (a b : ℕ) (t : Bool) → ltb a b ≡ t → (a < b) ⊎ (b ≤ a)
 by-test a b true e = inl (ltb-true a b e)
@@ -18,17 +18,17 @@ by-test a b false e = inr (ltb-false a b e)
 pub lt-or-le : (a b : ℕ) → (a < b) ⊎ (b ≤ a)
 lt-or-le a b = by-test a b (ltb a b) refl
 
-in-last : (k n : ℕ) → n < 10 → digitsIn k n ≡ (48 + n) ∷ []
-unfolding digitsIn
+in-last : (k n : ℕ) → n < 10 → digits_in k n ≡ (48 + n) ∷ []
+unfolding digits_in
 in-last zero n h = refl
 in-last (suc k) n h = simp (lt-ltb n 10 h)
 
-in-more : (k n : ℕ) → 10 ≤ n → digitsIn (suc k) n ≡ digitsIn k (n / 10) ++ ((48 + n % 10) ∷ [])
-unfolding digitsIn
+in-more : (k n : ℕ) → 10 ≤ n → digits_in (suc k) n ≡ digits_in k (n / 10) ++ ((48 + n % 10) ∷ [])
+unfolding digits_in
 in-more k n h = simp (le-ltb n 10 h)
 
 -- n + 1 digits are enough
-enough : (k j n : ℕ) → n ≤ k → n ≤ j → digitsIn k n ≡ digitsIn j n
+enough : (k j n : ℕ) → n ≤ k → n ≤ j → digits_in k n ≡ digits_in j n
 enough zero j n a b =
     let s : n < 10 = omega arith in
     in-last zero n s ∙ sym (in-last j n s)
@@ -47,7 +47,7 @@ digits_last n h = in-last n n h
 digits-more' : (k n : ℕ) → n ≡ suc k → 10 ≤ n → digits n ≡ digits (n / 10) ++ ((48 + n % 10) ∷ [])
 unfolding digits
 digits-more' k n e h =
-    ap (λ (j : ℕ). digitsIn j n) e ∙ in-more k n h
+    ap (λ (j : ℕ). digits_in j n) e ∙ in-more k n h
     ∙ ap (λ (x : List ℕ). x ++ ((48 + n % 10) ∷ [])) (enough k (n / 10) (n / 10) (omega arith) (omega arith))
 
 pub digits_more : (n : ℕ) → 10 ≤ n → digits n ≡ digits (n / 10) ++ ((48 + n % 10) ∷ [])

@@ -13,23 +13,23 @@ use Rattle.whole.proofs.Flags.{eq_yes, eq_no}
 use Rattle.text.specs.Ascii.{ascii}
 use Rattle.text.specs.Decimal.{decimal}
 use Rattle.text.specs.declared.decimal.Got.TheVariants.{Nothing}
-use Rattle.text.specs.Number.{many, digitsAt, minusAt, plusAt, number_at}
-use Rattle.text.specs.End.{endText}
+use Rattle.text.specs.Number.{many, digits_at, minus_at, plus_at, number_at}
+use Rattle.text.specs.End.{end_text}
 use Rattle.text.proofs.Back.{alone}
 
 -- h and l are what the code has for MAX and MIN of the width
 module _ (w : Width) (z h l : ℤ) (is-h : h ≡ greatest w) (is-l : l ≡ least w) where
-  pub at-greatest : SFits w64 z → SFits w64 h → of_z w64 z ≡ of_z w64 h → endText w z ≡ ascii "inf"
-  unfolding endText
+  pub at-greatest : SFits w64 z → SFits w64 h → of_z w64 z ≡ of_z w64 h → end_text w z ≡ ascii "inf"
+  unfolding end_text
   at-greatest f g e = rw (sym is-h, eq_yes z h e f g)
 
   module _ (below : of_z w64 z ≡ of_z w64 h → ⊥) where
-    pub at_least : SFits w64 z → SFits w64 l → of_z w64 z ≡ of_z w64 l → endText w z ≡ ascii "-inf"
-    unfolding endText
+    pub at_least : SFits w64 z → SFits w64 l → of_z w64 z ≡ of_z w64 l → end_text w z ≡ ascii "-inf"
+    unfolding end_text
     at_least f g e = rw (sym is-h, eq_no w64 z h below, sym is-l, eq_yes z l e f g)
 
-    pub between : (of_z w64 z ≡ of_z w64 l → ⊥) → endText w z ≡ decimal z
-    unfolding endText
+    pub between : (of_z w64 z ≡ of_z w64 l → ⊥) → end_text w z ≡ decimal z
+    unfolding end_text
     between above = rw (sym is-h, eq_no w64 z h below, sym is-l, eq_no w64 z l above)
 
 -- which text an end has
@@ -38,20 +38,20 @@ pub data EndOf (w : Width) (z : ℤ) : List ℕ → Type 0 where
   bottom : z ≡ least w → EndOf w z (ascii "-inf")
   number : EndOf w z (decimal z)
 
-pub end_of : (w : Width) (z : ℤ) → EndOf w z (endText w z)
-unfolding endText
+pub end_of : (w : Width) (z : ℤ) → EndOf w z (end_text w z)
+unfolding end_text
 end_of w z = branch (eq_test z (greatest w)) (EndOf w z) top (λ n. branch (eq_test z (least w)) (EndOf w z) bottom (λ m. number))
 
 -- no number is written as `inf` or `-inf`
 not-inf : (z : ℤ) → SFits w64 z → ascii "inf" ≡ decimal z → ⊥
-unfolding number_at plusAt digitsAt many
+unfolding number_at plus_at digits_at many
 not-inf z f e =
     let a = alone z f in
     let b : number_at (ascii "inf") 0 ≡ Nothing = refl in
     let z : ◌≡◌ {A = ℕ} 0 1 = cc (ap (λ (t : List ℕ). number_at t 0) e) in omega arith
 
 not-minus-inf : (z : ℤ) → SFits w64 z → ascii "-inf" ≡ decimal z → ⊥
-unfolding number_at minusAt digitsAt many
+unfolding number_at minus_at digits_at many
 not-minus-inf z f e =
     let a = alone z f in
     let b : number_at (ascii "-inf") 0 ≡ Nothing = refl in

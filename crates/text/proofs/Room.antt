@@ -9,20 +9,20 @@ use lib.Seq.{sets}
 use lib.IntN.{ℤ, pos, negsuc, nat_abs}
 use borrow.Author.Tests.{le-leb, lt-leb}
 use Rattle.text.specs.declared.Put.TheVariants.{Next, NoRoom}
-use Rattle.text.specs.Room.{fitsAt, putBytes, putAnswer}
+use Rattle.text.specs.Room.{fits_at, put_bytes, put_answer}
 use Rattle.text.specs.Decimal.{digits, decimal}
 use Rattle.text.proofs.Digits.{a-digit}
 
-pub room : (out : List ℕ) (at w : ℕ) (bs : List ℕ) → w ≡ length bs → at + w ≤ length out → (Next (at + w) ≡ putAnswer out at bs) × (sets out at bs ≡ putBytes out at bs)
-unfolding putAnswer putBytes
+pub room : (out : List ℕ) (at w : ℕ) (bs : List ℕ) → w ≡ length bs → at + w ≤ length out → (Next (at + w) ≡ put_answer out at bs) × (sets out at bs ≡ put_bytes out at bs)
+unfolding put_answer put_bytes
 room out at w bs e h =
-    let b : fitsAt out at bs ≡ true = le-leb (at + length bs) (length out) (rw e at h) in
+    let b : fits_at out at bs ≡ true = le-leb (at + length bs) (length out) (rw e at h) in
     (rw (e, b), rw b)
 
-pub no_room : (out : List ℕ) (at w : ℕ) (bs : List ℕ) → w ≡ length bs → length out < at + w → (NoRoom ≡ putAnswer out at bs) × (out ≡ putBytes out at bs)
-unfolding putAnswer putBytes
+pub no_room : (out : List ℕ) (at w : ℕ) (bs : List ℕ) → w ≡ length bs → length out < at + w → (NoRoom ≡ put_answer out at bs) × (out ≡ put_bytes out at bs)
+unfolding put_answer put_bytes
 no_room out at w bs e h =
-    let b : fitsAt out at bs ≡ false = lt-leb (at + length bs) (length out) (rw e at h) in
+    let b : fits_at out at bs ≡ false = lt-leb (at + length bs) (length out) (rw e at h) in
     (rw b, rw b)
 
 -- a number by its sign: z is its digits, or `-` and its digits

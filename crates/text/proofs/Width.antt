@@ -9,7 +9,7 @@ use lib.ListN.{length}
 use mir.Syntax.{Width, w64}
 use mir.Val.{SFits}
 use Rattle.text.specs.Decimal.{digits, decimal}
-use Rattle.text.specs.End.{endText}
+use Rattle.text.specs.End.{end_text}
 use Rattle.text.proofs.Digits.{lt-or-le, one-digit, longer}
 use Rattle.text.proofs.Ends.{EndOf, top, bottom, number, end_of}
 
@@ -39,5 +39,5 @@ end_below w z _ f (top e) = omega arith
 end_below w z _ f (bottom e) = omega arith
 end_below w z _ f number = decimal-below z f
 
-pub end-text-below : (w : Width) (z : ℤ) → SFits w64 z → length (endText w z) ≤ 20
-end-text-below w z f = end_below w z (endText w z) f (end_of w z)
+pub end-text-below : (w : Width) (z : ℤ) → SFits w64 z → length (end_text w z) ≤ 20
+end-text-below w z f = end_below w z (end_text w z) f (end_of w z)

@@ -12,7 +12,7 @@ use lib.ListN.{length, get_or, drop, set, take, length-drop, drop_of_length-le}
 use lib.Seq.{sets, drop-cons, take_all}
 use borrow.Author.Tests.{lt-ltb, le-ltb, eq-eqb, ne_eqb, eqb-true}
 use Rattle.whole.specs.Choice.{pick}
-use Rattle.text.specs.Word.{Letters, NoLetter, begins, letters, coded, code_of, word_of, firstCode, secondCode}
+use Rattle.text.specs.Word.{Letters, NoLetter, begins, letters, coded, code_of, word_of, first_code, second_code}
 
 -- stores
 pub sets_more : (l w : List ℕ) (at j : ℕ) → j < length w → sets l (at + j) (drop j w) ≡ sets (set l (at + j) (get_or w j 0)) (at + (j + 1)) (drop (j + 1) w)
@@ -104,39 +104,39 @@ none-past s at h =
     rw (drop_of_length-le s g)
 
 module _ (w : List ℕ) where
-  pub first-long : 16 < length w → firstCode w ≡ 0
-  unfolding firstCode
+  pub first-long : 16 < length w → first_code w ≡ 0
+  unfolding first_code
   first-long h = rw (lt-ltb 16 (length w) h)
 
-  pub first_two : length w ≤ 16 → firstCode w ≡ code_of (take 8 w)
-  unfolding firstCode
+  pub first_two : length w ≤ 16 → first_code w ≡ code_of (take 8 w)
+  unfolding first_code
   first_two h = rw (le-ltb 16 (length w) h)
 
-  pub first_one : length w ≤ 8 → firstCode w ≡ code_of w
+  pub first_one : length w ≤ 8 → first_code w ≡ code_of w
   first_one h =
       let l : length w ≤ 16 = omega arith in
       first_two l ∙ ap code_of (take_all 8 w h)
 
-  pub second-long : 16 < length w → secondCode w ≡ 0
-  unfolding secondCode
+  pub second-long : 16 < length w → second_code w ≡ 0
+  unfolding second_code
   second-long h = rw (lt-ltb 16 (length w) h)
 
-  pub second-two : length w ≤ 16 → secondCode w ≡ code_of (drop 8 w)
-  unfolding secondCode
+  pub second-two : length w ≤ 16 → second_code w ≡ code_of (drop 8 w)
+  unfolding second_code
   second-two h = rw (le-ltb 16 (length w) h)
 
-  pub second-one : length w ≤ 8 → secondCode w ≡ 0
+  pub second-one : length w ≤ 8 → second_code w ≡ 0
   unfolding code_of coded
   second-one h =
       let l : length w ≤ 16 = omega arith in
       second-two l ∙ rw (drop_of_length-le w h)
 
-pub none_first : firstCode [] ≡ 0
-unfolding firstCode code_of coded
+pub none_first : first_code [] ≡ 0
+unfolding first_code code_of coded
 none_first = refl
 
-pub none-second : secondCode [] ≡ 0
-unfolding secondCode code_of coded
+pub none-second : second_code [] ≡ 0
+unfolding second_code code_of coded
 none-second = refl
 
 -- a word, and bytes that begin with no letter

@@ -7,5 +7,5 @@ use Rattle.whole.specs.Range.{least, greatest}
 use Rattle.text.specs.Ascii.{ascii}
 use Rattle.text.specs.Decimal.{decimal}
 
-unfoldable pub endText : Width → ℤ → List ℕ
-endText w z = pick (z ≟ greatest w) (ascii "inf") (pick (z ≟ least w) (ascii "-inf") (decimal z))
+unfoldable pub end_text : Width → ℤ → List ℕ
+end_text w z = pick (z ≟ greatest w) (ascii "inf") (pick (z ≟ least w) (ascii "-inf") (decimal z))

@@ -8,9 +8,9 @@ use Rattle.text.specs.declared.hex.Bytes.TheVariants.{Are, NoRoom}
 abbrev pub digit : ℕ → ℕ
 digit n = pick (ltb n 10) (48 + n) (55 + n)
 
-unfoldable pub hexText : List ℕ → List ℕ
-hexText [] = []
-hexText (b ∷ bs) = digit (b / 16) ∷ (digit (b % 16) ∷ hexText bs)
+unfoldable pub hex_text : List ℕ → List ℕ
+hex_text [] = []
+hex_text (b ∷ bs) = digit (b / 16) ∷ (digit (b % 16) ∷ hex_text bs)
 
 -- the digit that a byte is, of 0 to 9, A to F and a to f; 16 for any other byte
 unfoldable pub nibble : ℕ → ℕ
@@ -20,21 +20,21 @@ nibble b =
     (pick (ltb b 97) 16 (pick (ltb b 103) (b - 87) 16)))))
 
 -- the byte at a place as a digit, and 16 past the end
-unfoldable pub nibbleAt : List ℕ → ℕ → ℕ
-nibbleAt s i = nibble (get_or s i 0)
+unfoldable pub nibble_at : List ℕ → ℕ → ℕ
+nibble_at s i = nibble (get_or s i 0)
 
 -- bytes that begin with no hexadecimal digit, or are none
 abbrev pub NoNibble : List ℕ → Type 0
 NoNibble r = 15 < nibble (get_or r 0 0)
 
 -- the bytes whose digits stand at the start of s: as many as there are pairs of digits
-unfoldable pub hexBytes : List ℕ → List ℕ
-hexBytes [] = []
-hexBytes (a ∷ []) = []
-hexBytes (a ∷ (b ∷ s)) = pick (ltb (nibble a) 16 && ltb (nibble b) 16) ((nibble a * 16 + nibble b) ∷ hexBytes s) []
+unfoldable pub hex_bytes : List ℕ → List ℕ
+hex_bytes [] = []
+hex_bytes (a ∷ []) = []
+hex_bytes (a ∷ (b ∷ s)) = pick (ltb (nibble a) 16 && ltb (nibble b) 16) ((nibble a * 16 + nibble b) ∷ hex_bytes s) []
 
 -- what reading them from a place into a lent buffer answers
-unfoldable pub hexAnswer : List ℕ → ℕ → List ℕ → Bytes
-hexAnswer s at out =
-    pick (leb (length (hexBytes (drop at s))) (length out))
-    (Are (length (hexBytes (drop at s))) (at + 2 * length (hexBytes (drop at s)))) NoRoom
+unfoldable pub hex_answer : List ℕ → ℕ → List ℕ → Bytes
+hex_answer s at out =
+    pick (leb (length (hex_bytes (drop at s))) (length out))
+    (Are (length (hex_bytes (drop at s))) (at + 2 * length (hex_bytes (drop at s)))) NoRoom

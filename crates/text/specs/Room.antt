@@ -5,11 +5,11 @@ use Rattle.whole.specs.Choice.{pick}
 use Rattle.text.specs.declared.Put.{Put}
 use Rattle.text.specs.declared.Put.TheVariants.{Next, NoRoom}
 
-abbrev pub fitsAt : List ℕ → ℕ → List ℕ → Bool
-fitsAt out at bs = leb (at + length bs) (length out)
+abbrev pub fits_at : List ℕ → ℕ → List ℕ → Bool
+fits_at out at bs = leb (at + length bs) (length out)
 
-unfoldable pub putBytes : List ℕ → ℕ → List ℕ → List ℕ
-putBytes out at bs = pick (fitsAt out at bs) (sets out at bs) out
+unfoldable pub put_bytes : List ℕ → ℕ → List ℕ → List ℕ
+put_bytes out at bs = pick (fits_at out at bs) (sets out at bs) out
 
-unfoldable pub putAnswer : List ℕ → ℕ → List ℕ → Put
-putAnswer out at bs = pick (fitsAt out at bs) (Next (at + length bs)) NoRoom
+unfoldable pub put_answer : List ℕ → ℕ → List ℕ → Put
+put_answer out at bs = pick (fits_at out at bs) (Next (at + length bs)) NoRoom

@@ -35,8 +35,8 @@ unfoldable pub code_of : List ℕ → ℕ
 code_of xs = pick (ltb 8 (length xs)) 0 (coded xs 0)
 
 -- a word's first eight bytes, and those after them; 0 for a word of more than sixteen bytes
-unfoldable pub firstCode : List ℕ → ℕ
-firstCode w = pick (ltb 16 (length w)) 0 (code_of (take 8 w))
+unfoldable pub first_code : List ℕ → ℕ
+first_code w = pick (ltb 16 (length w)) 0 (code_of (take 8 w))
 
-unfoldable pub secondCode : List ℕ → ℕ
-secondCode w = pick (ltb 16 (length w)) 0 (code_of (drop 8 w))
+unfoldable pub second_code : List ℕ → ℕ
+second_code w = pick (ltb 16 (length w)) 0 (code_of (drop 8 w))

@@ -2,8 +2,8 @@
 ghost use Rattle.std.specs.Prelude.{◌≡◌, ◌∷◌, ◌+◌, ◌≤◌, ◌^◌, neg_ℤ, pos, length};
 ghost use Rattle.std.proofs.lemmas.List.Edits.{sets};
 ghost use Rattle.text.specs.Decimal.{digits, decimal};
-ghost use Rattle.text.specs.Number.{digitAt, digitsAt, minusAt, plusAt, number_at};
-ghost use Rattle.text.specs.Room.{putAnswer, putBytes};
+ghost use Rattle.text.specs.Number.{digit_at, digits_at, minus_at, plus_at, number_at};
+ghost use Rattle.text.specs.Room.{put_answer, put_bytes};
 
 use crate::Put;
 
@@ -37,7 +37,7 @@ fn fill_digits(out: &mut [u8], at: usize, k: usize, n: u64)
 
 // Writes a number from 0 up.
 pub fn put_natural(out: &mut [u8], at: usize, n: u64) -> Put
-    ensures { (result ≡ putAnswer out.old at (digits n)) × (out.new ≡ putBytes out.old at (digits n)) }
+    ensures { (result ≡ put_answer out.old at (digits n)) × (out.new ≡ put_bytes out.old at (digits n)) }
 {
     let k = width(n);
     if out.len() <= at {
@@ -53,7 +53,7 @@ pub fn put_natural(out: &mut [u8], at: usize, n: u64) -> Put
 
 // Writes `-` and a number from 0 up.
 fn put_below(out: &mut [u8], at: usize, n: u64) -> Put
-    ensures { (result ≡ putAnswer out.old at (45 ∷ digits n)) × (out.new ≡ putBytes out.old at (45 ∷ digits n)) }
+    ensures { (result ≡ put_answer out.old at (45 ∷ digits n)) × (out.new ≡ put_bytes out.old at (45 ∷ digits n)) }
 {
     let k = width(n);
     if out.len() <= at {
@@ -70,7 +70,7 @@ fn put_below(out: &mut [u8], at: usize, n: u64) -> Put
 
 // Writes a number.
 pub fn put_number(out: &mut [u8], at: usize, n: i64) -> Put
-    ensures { (result ≡ putAnswer out.old at (decimal n)) × (out.new ≡ putBytes out.old at (decimal n)) }
+    ensures { (result ≡ put_answer out.old at (decimal n)) × (out.new ≡ put_bytes out.old at (decimal n)) }
 {
     let m = whole::magnitude(n);
     if n < 0 {
@@ -82,7 +82,7 @@ pub fn put_number(out: &mut [u8], at: usize, n: i64) -> Put
 
 // The digit at a place, or 10 for any other byte and for the end.
 fn digit_at(s: &[u8], i: usize) -> u64
-    ensures { result ≡ digitAt s.now i }
+    ensures { result ≡ digit_at s.now i }
 {
     if s.len() <= i {
         return 10;
@@ -107,7 +107,7 @@ enum Digits {
 }
 
 fn get_digits(s: &[u8], at: usize) -> Digits
-    ensures { result ≡ digitsAt s.now at }
+    ensures { result ≡ digits_at s.now at }
 {
     let mut i = at;
     let mut v: u64 = 0;
@@ -150,7 +150,7 @@ fn minus(m: u64) -> i64
 
 // The number whose `-` stands before the place.
 fn get_minus(s: &[u8], at: usize) -> Got
-    ensures { result ≡ minusAt s.now at }
+    ensures { result ≡ minus_at s.now at }
 {
     match get_digits(s, at) {
         Digits::Value(m, e) => {
@@ -164,7 +164,7 @@ fn get_minus(s: &[u8], at: usize) -> Got
 }
 
 fn get_plus(s: &[u8], at: usize) -> Got
-    ensures { result ≡ plusAt s.now at }
+    ensures { result ≡ plus_at s.now at }
 {
     match get_digits(s, at) {
         Digits::Value(m, e) => {

@@ -1,8 +1,8 @@
 // Bytes in hexadecimal: two digits a byte. Upper case is written, both cases are read.
 ghost use Rattle.std.specs.Prelude.{◌≡◌, ◌+◌, ◌*◌, ◌≤◌, ◌<◌, length, drop};
 ghost use Rattle.std.proofs.lemmas.List.Edits.{sets};
-ghost use Rattle.text.specs.Hex.{digit, hexText, nibbleAt, hexBytes, hexAnswer};
-ghost use Rattle.text.specs.Room.{putAnswer, putBytes};
+ghost use Rattle.text.specs.Hex.{digit, hex_text, nibble_at, hex_bytes, hex_answer};
+ghost use Rattle.text.specs.Room.{put_answer, put_bytes};
 
 use crate::Put;
 
@@ -15,8 +15,8 @@ fn digit_of(n: u8) -> u8
 }
 
 fn fill_hex(out: &mut [u8], at: usize, bytes: &[u8])
-    requires { at + length (hexText bytes.now) ≤ length out.old }
-    ensures { out.new ≡ sets out.old at (hexText bytes.now) }
+    requires { at + length (hex_text bytes.now) ≤ length out.old }
+    ensures { out.new ≡ sets out.old at (hex_text bytes.now) }
 {
     let mut i = at;
     let mut j: usize = 0;
@@ -31,7 +31,7 @@ fn fill_hex(out: &mut [u8], at: usize, bytes: &[u8])
 
 // Writes bytes.
 pub fn put_hex(out: &mut [u8], at: usize, bytes: &[u8]) -> Put
-    ensures { (result ≡ putAnswer out.old at (hexText bytes.now)) × (out.new ≡ putBytes out.old at (hexText bytes.now)) }
+    ensures { (result ≡ put_answer out.old at (hex_text bytes.now)) × (out.new ≡ put_bytes out.old at (hex_text bytes.now)) }
 {
     if out.len() < at {
         return Put::NoRoom;
@@ -54,7 +54,7 @@ pub enum Bytes {
 
 // The hexadecimal digit at a place, or 16 for any other byte and for the end.
 fn nibble_at(s: &[u8], i: usize) -> u8
-    ensures { result ≡ nibbleAt s.now i }
+    ensures { result ≡ nibble_at s.now i }
 {
     if s.len() <= i {
         return 16;
@@ -82,7 +82,7 @@ fn nibble_at(s: &[u8], i: usize) -> u8
 }
 
 fn count_bytes(s: &[u8], at: usize) -> usize
-    ensures { result ≡ length (hexBytes (drop at s.now)) }
+    ensures { result ≡ length (hex_bytes (drop at s.now)) }
 {
     let mut i = at;
     let mut n: usize = 0;
@@ -100,8 +100,8 @@ fn count_bytes(s: &[u8], at: usize) -> usize
 }
 
 fn fill_bytes(s: &[u8], at: usize, n: usize, out: &mut [u8])
-    requires { (n ≡ length (hexBytes (drop at s.now))) × (n ≤ length out.old) }
-    ensures { out.new ≡ sets out.old 0 (hexBytes (drop at s.now)) }
+    requires { (n ≡ length (hex_bytes (drop at s.now))) × (n ≤ length out.old) }
+    ensures { out.new ≡ sets out.old 0 (hex_bytes (drop at s.now)) }
 {
     let mut i = at;
     let mut j: usize = 0;
@@ -114,7 +114,7 @@ fn fill_bytes(s: &[u8], at: usize, n: usize, out: &mut [u8])
 
 // Reads the bytes whose digits stand at a place: as many as there are pairs of digits.
 pub fn get_hex(s: &[u8], at: usize, out: &mut [u8]) -> Bytes
-    ensures { (result ≡ hexAnswer s.now at out.old) × (out.new ≡ putBytes out.old 0 (hexBytes (drop at s.now))) }
+    ensures { (result ≡ hex_answer s.now at out.old) × (out.new ≡ put_bytes out.old 0 (hex_bytes (drop at s.now))) }
 {
     let n = count_bytes(s, at);
     if out.len() < n {

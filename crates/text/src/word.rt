@@ -1,8 +1,8 @@
 // Words: bytes up to the next space.
 ghost use Rattle.std.specs.Prelude.{◌≡◌, ◌+◌, ◌≤◌, length, drop};
 ghost use Rattle.std.proofs.lemmas.List.Edits.{sets};
-ghost use Rattle.text.specs.Room.{putAnswer, putBytes};
-ghost use Rattle.text.specs.Word.{begins, letters, code_of, word_of, firstCode, secondCode};
+ghost use Rattle.text.specs.Room.{put_answer, put_bytes};
+ghost use Rattle.text.specs.Word.{begins, letters, code_of, word_of, first_code, second_code};
 
 use crate::Put;
 
@@ -19,7 +19,7 @@ fn fill_word(out: &mut [u8], at: usize, word: &[u8])
 
 // Writes a word, or any bytes.
 pub fn put_word(out: &mut [u8], at: usize, word: &[u8]) -> Put
-    ensures { (result ≡ putAnswer out.old at word.now) × (out.new ≡ putBytes out.old at word.now) }
+    ensures { (result ≡ put_answer out.old at word.now) × (out.new ≡ put_bytes out.old at word.now) }
 {
     if out.len() < at {
         return Put::NoRoom;
@@ -82,7 +82,7 @@ fn code(w: &[u8]) -> u64
 
 // The first eight bytes of a word of at most sixteen.
 fn first_code(w: &[u8]) -> u64
-    ensures { result ≡ firstCode w.now }
+    ensures { result ≡ first_code w.now }
 {
     if 16 < w.len() {
         return 0;
@@ -92,7 +92,7 @@ fn first_code(w: &[u8]) -> u64
 
 // The bytes after the first eight of a word of at most sixteen.
 fn second_code(w: &[u8]) -> u64
-    ensures { result ≡ secondCode w.now }
+    ensures { result ≡ second_code w.now }
 {
     if 16 < w.len() {
         return 0;
@@ -110,7 +110,7 @@ pub struct Word {
 
 // Reads a word.
 pub fn word_at(s: &[u8], at: usize) -> Word
-    ensures { (result.next ≡ at + letters (drop at s.now)) × (result.first ≡ firstCode (word_of s.now at)) × (result.second ≡ secondCode (word_of s.now at)) }
+    ensures { (result.next ≡ at + letters (drop at s.now)) × (result.first ≡ first_code (word_of s.now at)) × (result.second ≡ second_code (word_of s.now at)) }
 {
     let e = word_end(s, at);
     if e <= s.len() {

@@ -5,13 +5,13 @@ use Rattle.interval.specs.declared.Interval.{Interval}
 use Rattle.refusal.specs.Answer.{Answer, is, refused}
 use Rattle.congruence.specs.declared.Congruence.{Congruence}
 
-abbrev pub rangeNumber : Answer Interval → ℕ
-rangeNumber (is v) = 0
-rangeNumber (refused n) = n
+abbrev pub range_number : Answer Interval → ℕ
+range_number (is v) = 0
+range_number (refused n) = n
 
-abbrev pub spacingNumber : answers.Answer Congruence → ℕ
-spacingNumber (answers.is v) = 0
-spacingNumber (answers.refused n) = n
+abbrev pub spacing_number : answers.Answer Congruence → ℕ
+spacing_number (answers.is v) = 0
+spacing_number (answers.refused n) = n
 
 pub record Refuses (n : ℕ) (one four : Bool) : Type 0 where
   pub by-1 : eqb n 1 ≡ one

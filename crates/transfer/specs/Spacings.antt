@@ -9,7 +9,7 @@ use Rattle.refusal.specs.Answer.{Answer, is, refused}
 use Rattle.congruence.specs.declared.Congruence.{Congruence}
 use Rattle.congruence.specs.Set.{cong, top, domain?}
 use Rattle.congruence.specs.Answer.{within}
-use Rattle.congruence.specs.Ported.{add, sub, mul, div, equals, logicalAnd, logicalOr, logicalNot, strictCmp}
+use Rattle.congruence.specs.Ported.{add, sub, mul, div, equals, logical_and, logical_or, logical_not, strict_cmp}
 use Rattle.transfer.specs.Operator.{other}
 
 abbrev pub yes : Congruence
@@ -19,42 +19,42 @@ abbrev pub no : Congruence
 no = cong (pos 0) (pos 0)
 
 -- what is shown for each order, and top where there is none
-unfoldable pub spacingBy : Order → (less equal greater : Congruence) → Congruence
-spacingBy Less less equal greater = less
-spacingBy Equal less equal greater = equal
-spacingBy Greater less equal greater = greater
-spacingBy None less equal greater = top
+unfoldable pub spacing_by : Order → (less equal greater : Congruence) → Congruence
+spacing_by Less less equal greater = less
+spacing_by Equal less equal greater = equal
+spacing_by Greater less equal greater = greater
+spacing_by None less equal greater = top
 
-unfoldable pub spacingOn : Answer Order → (less equal greater : Congruence) → Answer Congruence
-spacingOn (is o) less equal greater = is (spacingBy o less equal greater)
-spacingOn (refused n) less equal greater = refused n
+unfoldable pub spacing_on : Answer Order → (less equal greater : Congruence) → Answer Congruence
+spacing_on (is o) less equal greater = is (spacing_by o less equal greater)
+spacing_on (refused n) less equal greater = refused n
 
 -- add, sub, mul, div, mod, =, and, or, <, >, <=, >=
-unfoldable pub binaryWithin : ℤ → Congruence → Congruence → Answer Congruence
-binaryWithin op a b =
+unfoldable pub binary_within : ℤ → Congruence → Congruence → Answer Congruence
+binary_within op a b =
     pick (op ≟ pos 2) (add a b)
     (pick (op ≟ pos 3) (sub a b)
     (pick (op ≟ pos 4) (mul a b)
     (pick (op ≟ pos 5) (div a b)
     (pick (op ≟ pos 6) (is top)
     (pick (op ≟ pos 7) (equals a b)
-    (pick (op ≟ pos 8) (logicalAnd a b)
-    (pick (op ≟ pos 9) (logicalOr a b)
-    (pick (op ≟ pos 10) (spacingOn (strictCmp a b) yes no no)
-    (pick (op ≟ pos 11) (spacingOn (strictCmp a b) no no yes)
-    (pick (op ≟ pos 12) (spacingOn (strictCmp a b) yes yes no)
-    (pick (op ≟ pos 13) (spacingOn (strictCmp a b) no yes yes)
+    (pick (op ≟ pos 8) (logical_and a b)
+    (pick (op ≟ pos 9) (logical_or a b)
+    (pick (op ≟ pos 10) (spacing_on (strict_cmp a b) yes no no)
+    (pick (op ≟ pos 11) (spacing_on (strict_cmp a b) no no yes)
+    (pick (op ≟ pos 12) (spacing_on (strict_cmp a b) yes yes no)
+    (pick (op ≟ pos 13) (spacing_on (strict_cmp a b) no yes yes)
     (refused (number_of (other op))))))))))))))
 
-abbrev pub congruenceBinary : ℤ → Congruence → Congruence → Answer Congruence
-congruenceBinary op a b = within (domain? a && domain? b) (binaryWithin op a b)
+abbrev pub congruence_binary : ℤ → Congruence → Congruence → Answer Congruence
+congruence_binary op a b = within (domain? a && domain? b) (binary_within op a b)
 
 -- not, same
-unfoldable pub unaryWithin : ℤ → Congruence → Answer Congruence
-unaryWithin op a =
-    pick (op ≟ pos 14) (logicalNot a)
+unfoldable pub unary_within : ℤ → Congruence → Answer Congruence
+unary_within op a =
+    pick (op ≟ pos 14) (logical_not a)
     (pick (op ≟ pos 15) (is a)
     (refused (number_of (other op))))
 
-abbrev pub congruenceUnary : ℤ → Congruence → Answer Congruence
-congruenceUnary op a = within (domain? a) (unaryWithin op a)
+abbrev pub congruence_unary : ℤ → Congruence → Answer Congruence
+congruence_unary op a = within (domain? a) (unary_within op a)

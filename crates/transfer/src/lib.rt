@@ -1,10 +1,10 @@
 // The transfers of the two analyses, ported: what an operator, by its number in a sheet, does to intervals and to congruences.
 ghost use Rattle.std.specs.Prelude.{◌≡◌, ℤ};
 ghost use Rattle.interval.specs.Answer.{told};
-ghost use Rattle.congruence.specs.Answer.{told as spacingTold, orderTold};
+ghost use Rattle.congruence.specs.Answer.{told as spacing_told, order_told};
 ghost use Rattle.transfer.specs.Operator.{other};
-ghost use Rattle.transfer.specs.Ranges.{rangeBy, intervalBinary, intervalUnary};
-ghost use Rattle.transfer.specs.Spacings.{spacingBy, spacingOn, binaryWithin, unaryWithin, congruenceBinary, congruenceUnary};
+ghost use Rattle.transfer.specs.Ranges.{range_by, interval_binary, interval_unary};
+ghost use Rattle.transfer.specs.Spacings.{spacing_by, spacing_on, binary_within, unary_within, congruence_binary, congruence_unary};
 
 use congruence::{Congruence, CongruenceAnswer, OrderAnswer};
 use interval::{BOOL_RANGE, FALSE_RANGE, Interval, IntervalAnswer, TRUE_RANGE};
@@ -28,7 +28,7 @@ fn other(op: i64) -> Refusal
 
 // What a comparison shows where the left side is less, equal, greater; both where the order isn't known.
 fn range_by(order: Order, less: Interval, equal: Interval, greater: Interval) -> Interval
-    ensures { result ≡ rangeBy order less equal greater }
+    ensures { result ≡ range_by order less equal greater }
 {
     match order {
         Order::Less => less,
@@ -39,7 +39,7 @@ fn range_by(order: Order, less: Interval, equal: Interval, greater: Interval) ->
 }
 
 pub fn interval_binary(op: i64, a: Interval, b: Interval) -> IntervalAnswer
-    ensures { told result ≡ intervalBinary op a b }
+    ensures { told result ≡ interval_binary op a b }
 {
     let strict = interval::ported::strict_cmp(a, b);
     let weak = interval::ported::weak_cmp(a, b);
@@ -61,7 +61,7 @@ pub fn interval_binary(op: i64, a: Interval, b: Interval) -> IntervalAnswer
 }
 
 pub fn interval_unary(op: i64, a: Interval) -> IntervalAnswer
-    ensures { told result ≡ intervalUnary op a }
+    ensures { told result ≡ interval_unary op a }
 {
     match whole::natural(op) {
         14 => IntervalAnswer::Is(interval::ported::logical_not(a)),
@@ -84,7 +84,7 @@ const TRUE: Congruence = Congruence {
 
 // What a comparison shows where the left side is less, equal, greater; top where the order isn't known.
 fn spacing_by(order: Order, less: Congruence, equal: Congruence, greater: Congruence) -> Congruence
-    ensures { result ≡ spacingBy order less equal greater }
+    ensures { result ≡ spacing_by order less equal greater }
 {
     match order {
         Order::Less => less,
@@ -101,7 +101,7 @@ fn spacing_on(
     equal: Congruence,
     greater: Congruence,
 ) -> CongruenceAnswer
-    ensures { spacingTold result ≡ spacingOn (orderTold order) less equal greater }
+    ensures { spacing_told result ≡ spacing_on (order_told order) less equal greater }
 {
     match order {
         OrderAnswer::Is(o) => CongruenceAnswer::Is(spacing_by(o, less, equal, greater)),
@@ -111,7 +111,7 @@ fn spacing_on(
 
 // On values of the domain.
 fn binary_within(op: i64, a: Congruence, b: Congruence) -> CongruenceAnswer
-    ensures { spacingTold result ≡ binaryWithin op a b }
+    ensures { spacing_told result ≡ binary_within op a b }
 {
     let order = congruence::ported::strict_cmp(a, b);
     match whole::natural(op) {
@@ -132,7 +132,7 @@ fn binary_within(op: i64, a: Congruence, b: Congruence) -> CongruenceAnswer
 }
 
 pub fn congruence_binary(op: i64, a: Congruence, b: Congruence) -> CongruenceAnswer
-    ensures { spacingTold result ≡ congruenceBinary op a b }
+    ensures { spacing_told result ≡ congruence_binary op a b }
 {
     if !a.in_domain() {
         return CongruenceAnswer::Refused(Refusal::NotInDomain);
@@ -145,7 +145,7 @@ pub fn congruence_binary(op: i64, a: Congruence, b: Congruence) -> CongruenceAns
 
 // On a value of the domain.
 fn unary_within(op: i64, a: Congruence) -> CongruenceAnswer
-    ensures { spacingTold result ≡ unaryWithin op a }
+    ensures { spacing_told result ≡ unary_within op a }
 {
     match whole::natural(op) {
         14 => congruence::ported::logical_not(a),
@@ -155,7 +155,7 @@ fn unary_within(op: i64, a: Congruence) -> CongruenceAnswer
 }
 
 pub fn congruence_unary(op: i64, a: Congruence) -> CongruenceAnswer
-    ensures { spacingTold result ≡ congruenceUnary op a }
+    ensures { spacing_told result ≡ congruence_unary op a }
 {
     if a.in_domain() {
         unary_within(op, a)

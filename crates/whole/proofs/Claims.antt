@@ -8,7 +8,7 @@ use lib.Pow.{pow_pos}
 use mir.Syntax.{Width, w64}
 use mir.Val.{SFits, hbits}
 use Rattle.whole.specs.Range.{least, greatest, fits?, clamp}
-use Rattle.whole.specs.Divides.{◌∣ℤ◌, steps, gcd, lcm, Cong, floorRem}
+use Rattle.whole.specs.Divides.{◌∣ℤ◌, steps, gcd, lcm, Cong, floor_rem}
 use Rattle.whole.specs.Exact.{exactly}
 use Rattle.whole.specs.declared.Exact.{Exact}
 use Rattle.whole.specs.declared.Exact.TheVariants.{Is, DoesNotFit}
@@ -70,11 +70,11 @@ gcd-of-least = exactly-not w64 (pos 9223372036854775808) (inr (omega ints))
 
 -- the floored remainder is the one number from 0 to |m| - 1 that differs from x by a multiple of m
 module _ (x m : ℤ) where
-  pub floored-is : m ≢ pos 0 → (pos 0 ≤ℤ floorRem x m) × (floorRem x m <ℤ pos (nat_abs m)) × Cong (nat_abs m) (floorRem x m) x
+  pub floored-is : m ≢ pos 0 → (pos 0 ≤ℤ floor_rem x m) × (floor_rem x m <ℤ pos (nat_abs m)) × Cong (nat_abs m) (floor_rem x m) x
   floored-is nz = (Floor.floor-low x m nz, Floor.floor-high x m nz, Floor.floor-class x m)
 
-  pub floored-only : (r : ℤ) → m ≢ pos 0 → pos 0 ≤ℤ r → r <ℤ pos (nat_abs m) → Cong (nat_abs m) r x → r ≡ floorRem x m
+  pub floored-only : (r : ℤ) → m ≢ pos 0 → pos 0 ≤ℤ r → r <ℤ pos (nat_abs m) → Cong (nat_abs m) r x → r ≡ floor_rem x m
   floored-only r nz h k d = Floor.floor-only x m r nz h k d
 
-pub floored-by-zero : (x : ℤ) → floorRem x (pos 0) ≡ x
+pub floored-by-zero : (x : ℤ) → floor_rem x (pos 0) ≡ x
 floored-by-zero x = Floor.floor-zero x

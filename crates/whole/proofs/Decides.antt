@@ -14,7 +14,7 @@ use mir.Val.{SFits}
 use Rattle.whole.specs.Choice.{pick}
 use Rattle.whole.specs.Test.{◌≤?◌, ◌<?◌, ◌≟◌}
 use Rattle.whole.specs.Range.{least, greatest, fits?}
-use Rattle.whole.proofs.Linear.{ints, leZ-no}
+use Rattle.whole.proofs.Linear.{ints, le_z-no}
 use Rattle.whole.proofs.Fits.{fits, low, high}
 
 -- b says which of two facts holds
@@ -30,7 +30,7 @@ by-T false f g = fails (g tt)
 module _ (a b : ℤ) where
   pub le_test : Decides (a ≤ℤ b) (b <ℤ a) (a ≤? b)
   unfolding ◌≤?◌
-  le_test = by-T (le_z a b) le_z_yes (leZ-no {a = a} {b = b})
+  le_test = by-T (le_z a b) le_z_yes (le_z-no {a = a} {b = b})
 
   pub lt_test : Decides (a <ℤ b) (b ≤ℤ a) (a <? b)
   unfolding ◌<?◌
@@ -104,7 +104,7 @@ module _ {A M : Type 0} where
 
 pub eq_test : (a b : ℤ) → Decides (a ≡ b) (a ≢ b) (a ≟ b)
 unfolding ◌≟◌
-eq_test a b = weaken there apart (both (by-T (le_z a b) le_z_yes (leZ-no {a = a} {b = b})) (by-T (le_z b a) le_z_yes (leZ-no {a = b} {b = a})))
+eq_test a b = weaken there apart (both (by-T (le_z a b) le_z_yes (le_z-no {a = a} {b = b})) (by-T (le_z b a) le_z_yes (le_z-no {a = b} {b = a})))
   where
     there : (a ≤ℤ b) × (b ≤ℤ a) → a ≡ b
     there h = omega ints

@@ -9,12 +9,12 @@ use lib.Pow.{pow_pos}
 use lib.Signed.{◌≤ℤ◌, ◌<ℤ◌, quot_z, rem_z, mag_rem}
 use mir.Syntax.{Width}
 use mir.Val.{SFits, hbits}
-use Rattle.whole.specs.Whole.{up, dn, ◌⊖◌, minℤ, maxℤ, min4, max4}
+use Rattle.whole.specs.Whole.{up, dn, ◌⊖◌, min_ℤ, max_ℤ, min4, max4}
 use Rattle.whole.proofs.Linear.{ints, wholes, read, sum, sub, neg, abs, from-≢, split, least, greatest}
 use Rattle.whole.proofs.Shapes.{lin}
 use Rattle.whole.proofs.Fits.{machine, range}
 use Rattle.whole.specs.Range as Range
-use Rattle.whole.proofs.Ring.{natAbs-*ℤ, natAbs-zero, -ℤ-*ℤ}
+use Rattle.whole.proofs.Ring.{nat_abs-*ℤ, nat_abs-zero, -ℤ-*ℤ}
 
 pub quot-rem : (x d : ℤ) → x ≡ quot_z x d *ℤ d +ℤ rem_z x d
 quot-rem (pos a) (pos b) = simp wholes (omega (arith, div-add-mod' a b))
@@ -22,12 +22,12 @@ quot-rem (pos a) (negsuc b) = simp wholes (omega (arith, div-add-mod' a (suc b))
 quot-rem (negsuc a) (pos b) = simp wholes (omega (arith, div-add-mod' (suc a) b))
 quot-rem (negsuc a) (negsuc b) = simp wholes (omega (arith, div-add-mod' (suc a) (suc b)))
 
-pub natAbs-rem : (x d : ℤ) → nat_abs (rem_z x d) ≡ nat_abs x % nat_abs d
-natAbs-rem (pos a) d = refl
-natAbs-rem (negsuc a) d = omega (arith, abs (neg_ℤ (pos (suc a % nat_abs d))), neg (pos (suc a % nat_abs d)))
+pub nat_abs-rem : (x d : ℤ) → nat_abs (rem_z x d) ≡ nat_abs x % nat_abs d
+nat_abs-rem (pos a) d = refl
+nat_abs-rem (negsuc a) d = omega (arith, abs (neg_ℤ (pos (suc a % nat_abs d))), neg (pos (suc a % nat_abs d)))
 
 pub rem-small : (x d : ℤ) → d ≢ pos 0 → nat_abs (rem_z x d) < nat_abs d
-rem-small x d h = rw natAbs-rem (mod-lt (nat_abs x) (omega (ints, abs d, from-≢ h)))
+rem-small x d h = rw nat_abs-rem (mod-lt (nat_abs x) (omega (ints, abs d, from-≢ h)))
 
 pub rem-nonneg : (x d : ℤ) → pos 0 ≤ℤ x → pos 0 ≤ℤ rem_z x d
 rem-nonneg (pos a) d h = omega ints
@@ -40,15 +40,15 @@ rem-nonpos (negsuc a) d h = omega (ints, neg (pos (suc a % nat_abs d)))
 pub rem_below : (x d : ℤ) → pos 0 <ℤ d → (neg_ℤ d <ℤ rem_z x d) × (rem_z x d <ℤ d)
 rem_below x d h = let f : d ≢ pos 0 = omega ints in omega (lin, abs (rem_z x d), abs d, rem-small x d f)
 
-pub natAbs-quot : (x d : ℤ) → nat_abs (quot_z x d) ≡ nat_abs x / nat_abs d
-natAbs-quot (pos a) (pos b) = refl
-natAbs-quot (pos a) (negsuc b) = omega (arith, abs (neg_ℤ (pos (a / suc b))), neg (pos (a / suc b)))
-natAbs-quot (negsuc a) (pos b) = omega (arith, abs (neg_ℤ (pos (suc a / b))), neg (pos (suc a / b)))
-natAbs-quot (negsuc a) (negsuc b) = refl
+pub nat_abs-quot : (x d : ℤ) → nat_abs (quot_z x d) ≡ nat_abs x / nat_abs d
+nat_abs-quot (pos a) (pos b) = refl
+nat_abs-quot (pos a) (negsuc b) = omega (arith, abs (neg_ℤ (pos (a / suc b))), neg (pos (a / suc b)))
+nat_abs-quot (negsuc a) (pos b) = omega (arith, abs (neg_ℤ (pos (suc a / b))), neg (pos (suc a / b)))
+nat_abs-quot (negsuc a) (negsuc b) = refl
 
 -- a multiple of d that is smaller than d is none
 pub small-multiple : (k d : ℤ) → nat_abs (k *ℤ d) < nat_abs d → k ≡ pos 0
-small-multiple k d h = natAbs-zero k (none (nat_abs k) (rw natAbs-*ℤ at h))
+small-multiple k d h = nat_abs-zero k (none (nat_abs k) (rw nat_abs-*ℤ at h))
   where
     none : (j : ℕ) → j * nat_abs d < nat_abs d → j ≡ 0
     none zero h = refl
@@ -131,16 +131,16 @@ quot-divisor-neg x c d s p h =
 
 -- ---- the corners of a quotient by a positive interval
 
-quot-between : (x y c d : ℤ) → pos 0 <ℤ c → c ≤ℤ y → y ≤ℤ d → (minℤ (quot_z x c) (quot_z x d) ≤ℤ quot_z x y) × (quot_z x y ≤ℤ maxℤ (quot_z x c) (quot_z x d))
+quot-between : (x y c d : ℤ) → pos 0 <ℤ c → c ≤ℤ y → y ≤ℤ d → (min_ℤ (quot_z x c) (quot_z x d) ≤ℤ quot_z x y) × (quot_z x y ≤ℤ max_ℤ (quot_z x c) (quot_z x d))
 quot-between x y c d p h k = elim (split (pos 0) x) [ inl s ↦ falling s | inr s ↦ rising s ]
   where
     p' : pos 0 <ℤ y
     p' = omega ints
 
-    falling : pos 0 ≤ℤ x → (minℤ (quot_z x c) (quot_z x d) ≤ℤ quot_z x y) × (quot_z x y ≤ℤ maxℤ (quot_z x c) (quot_z x d))
+    falling : pos 0 ≤ℤ x → (min_ℤ (quot_z x c) (quot_z x d) ≤ℤ quot_z x y) × (quot_z x y ≤ℤ max_ℤ (quot_z x c) (quot_z x d))
     falling s = omega (ints, quot-divisor x c y s p h, quot-divisor x y d s p' k, least (quot_z x c) (quot_z x d), greatest (quot_z x c) (quot_z x d))
 
-    rising : x <ℤ pos 0 → (minℤ (quot_z x c) (quot_z x d) ≤ℤ quot_z x y) × (quot_z x y ≤ℤ maxℤ (quot_z x c) (quot_z x d))
+    rising : x <ℤ pos 0 → (min_ℤ (quot_z x c) (quot_z x d) ≤ℤ quot_z x y) × (quot_z x y ≤ℤ max_ℤ (quot_z x c) (quot_z x d))
     rising s = omega (ints, quot-divisor-neg x c y (omega ints) p h, quot-divisor-neg x y d (omega ints) p' k, least (quot_z x c) (quot_z x d), greatest (quot_z x c) (quot_z x d))
 
 pub quot-corners : (x y a b c d : ℤ) → a ≤ℤ x → x ≤ℤ b → pos 0 <ℤ c → c ≤ℤ y → y ≤ℤ d →
@@ -149,8 +149,8 @@ quot-corners x y a b c d h k p l m =
     let p' : pos 0 <ℤ y = omega ints in
     let q = quot-between a y c d p l m in
     let r = quot-between b y c d p l m in (
-      omega (ints, quot-mono a x y p' h, least (minℤ (quot_z a c) (quot_z a d)) (minℤ (quot_z b c) (quot_z b d))),
-      omega (ints, quot-mono x b y p' k, greatest (maxℤ (quot_z a c) (quot_z a d)) (maxℤ (quot_z b c) (quot_z b d))),
+      omega (ints, quot-mono a x y p' h, least (min_ℤ (quot_z a c) (quot_z a d)) (min_ℤ (quot_z b c) (quot_z b d))),
+      omega (ints, quot-mono x b y p' k, greatest (max_ℤ (quot_z a c) (quot_z a d)) (max_ℤ (quot_z b c) (quot_z b d))),
     )
 
 -- ---- the quotient and the remainder fit, but for MIN / -1
@@ -166,7 +166,7 @@ fits-quot (negsuc a) (negsuc zero) h f = absurd (f refl)
 fits-quot (negsuc a) (negsuc (suc b)) h f = omega (machine, range h, div-lt_self {n = suc a} {k = suc (suc b)} (omega arith) (omega arith))
 
 pub fits-quot-above : (w : Width) (x d : ℤ) → SFits w x → Range.least w <ℤ x → SFits w (quot_z x d)
-fits-quot-above w x d h k = omega (machine, range h, abs (quot_z x d), natAbs-quot x d, div-le_self (nat_abs x) (nat_abs d), abs x, pow_pos (hbits w))
+fits-quot-above w x d h k = omega (machine, range h, abs (quot_z x d), nat_abs-quot x d, div-le_self (nat_abs x) (nat_abs d), abs x, pow_pos (hbits w))
 
 -- ---- by 0, by 1 and by -1
 pub rem-zero : (x : ℤ) → rem_z x (pos 0) ≡ x
@@ -174,7 +174,7 @@ rem-zero (pos a) = ap pos (mod-zero a)
 rem-zero (negsuc a) = ap (λ t. neg_ℤ (pos t)) (mod-zero (suc a))
 
 pub rem-minus : (x : ℤ) → rem_z x (negsuc 0) ≡ pos 0
-rem-minus x = natAbs-zero (rem_z x (negsuc 0)) (natAbs-rem x (negsuc 0) ∙ mod-one (nat_abs x))
+rem-minus x = nat_abs-zero (rem_z x (negsuc 0)) (nat_abs-rem x (negsuc 0) ∙ mod-one (nat_abs x))
 
 pub quot-zero : (x : ℤ) → quot_z x (pos 0) ≡ pos 0
 quot-zero (pos a) = ap pos (div-zero a)

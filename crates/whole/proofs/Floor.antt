@@ -9,41 +9,41 @@ use lib.Signed.{◌≤ℤ◌, ◌<ℤ◌, rem_z, quot_z}
 use mir.Syntax.{Width}
 use mir.Val.{SFits}
 use Rattle.whole.specs.Test.{◌<?◌}
-use Rattle.whole.specs.Divides.{◌∣ℤ◌, Cong, floorRem}
+use Rattle.whole.specs.Divides.{◌∣ℤ◌, Cong, floor_rem}
 use Rattle.whole.proofs.Linear.{ints, wholes, read, sum, sub, neg, abs, from-≢}
 use Rattle.whole.proofs.Shapes.{lin}
-use Rattle.whole.proofs.Ring.{natAbs-zero}
+use Rattle.whole.proofs.Ring.{nat_abs-zero}
 use Rattle.whole.proofs.Decides.{lt_test, branch, is_true, is_false}
 use Rattle.whole.proofs.Fits.{machine, range}
-use Rattle.whole.proofs.Divide.{quot-rem, natAbs-rem, rem-small, rem-zero, small-multiple}
+use Rattle.whole.proofs.Divide.{quot-rem, nat_abs-rem, rem-small, rem-zero, small-multiple}
 use Rattle.whole.proofs.Divides.{∣-refl, ∣-+, ∣-neg}
-use Rattle.whole.proofs.Congruence.{∣-at, ∣-natAbs, Cong-trans, Cong-sym}
+use Rattle.whole.proofs.Congruence.{∣-at, ∣-nat_abs, Cong-trans, Cong-sym}
 
 -- ---- by the sign of the truncated remainder
 module _ (x m : ℤ) where
-  pub floor-up : pos 0 ≤ℤ rem_z x m → floorRem x m ≡ rem_z x m
-  unfolding floorRem
+  pub floor-up : pos 0 ≤ℤ rem_z x m → floor_rem x m ≡ rem_z x m
+  unfolding floor_rem
   floor-up h = rw (is_false (lt_test (rem_z x m) (pos 0)) (λ k. omega ints)) refl
 
-  pub floor-down : rem_z x m <ℤ pos 0 → floorRem x m ≡ rem_z x m +ℤ pos (nat_abs m)
-  unfolding floorRem
+  pub floor-down : rem_z x m <ℤ pos 0 → floor_rem x m ≡ rem_z x m +ℤ pos (nat_abs m)
+  unfolding floor_rem
   floor-down h = rw (is_true (lt_test (rem_z x m) (pos 0)) (λ k. omega ints)) refl
 
-pub floor-zero : (x : ℤ) → floorRem x (pos 0) ≡ x
-unfolding floorRem
+pub floor-zero : (x : ℤ) → floor_rem x (pos 0) ≡ x
+unfolding floor_rem
 floor-zero x = branch (lt_test (rem_z x (pos 0)) (pos 0)) (λ t. t ≡ x) (λ h. omega (ints, rem-zero x, sum (rem_z x (pos 0)) (pos 0))) (λ h. rem-zero x)
 
-pub floor-one : (x : ℤ) → floorRem x (negsuc 0) ≡ pos 0
-floor-one x = let e = natAbs-zero (rem_z x (negsuc 0)) (natAbs-rem x (negsuc 0) ∙ mod-one (nat_abs x)) in floor-up x (negsuc 0) (omega ints) ∙ e
+pub floor-one : (x : ℤ) → floor_rem x (negsuc 0) ≡ pos 0
+floor-one x = let e = nat_abs-zero (rem_z x (negsuc 0)) (nat_abs-rem x (negsuc 0) ∙ mod-one (nat_abs x)) in floor-up x (negsuc 0) (omega ints) ∙ e
 
 -- ---- what it is
 module _ (x m : ℤ) (nz : m ≢ pos 0) where
-  pub floor-low : pos 0 ≤ℤ floorRem x m
-  unfolding floorRem
+  pub floor-low : pos 0 ≤ℤ floor_rem x m
+  unfolding floor_rem
   floor-low = branch (lt_test (rem_z x m) (pos 0)) (λ t. pos 0 ≤ℤ t) (λ h. omega (lin, rem-small x m nz, abs (rem_z x m), abs m)) (λ h. h)
 
-  pub floor-high : floorRem x m <ℤ pos (nat_abs m)
-  unfolding floorRem
+  pub floor-high : floor_rem x m <ℤ pos (nat_abs m)
+  unfolding floor_rem
   floor-high = branch (lt_test (rem_z x m) (pos 0)) (λ t. t <ℤ pos (nat_abs m)) (λ h. omega (lin, abs m)) (λ h. omega (ints, rem-small x m nz, abs (rem_z x m), abs m))
 
 -- a multiple of m is one of |m|
@@ -61,8 +61,8 @@ rem-class x m = to-abs m (rem_z x m -ℤ x) (record { by = neg_ℤ (quot_z x m);
     move : (x q m r : ℤ) → x ≡ q *ℤ m +ℤ r → r -ℤ x ≡ neg_ℤ q *ℤ m
     move x q m r = rw (read x, read q, read m, read r) (simp wholes (omega arith))
 
-pub floor-class : (x m : ℤ) → Cong (nat_abs m) (floorRem x m) x
-unfolding floorRem
+pub floor-class : (x m : ℤ) → Cong (nat_abs m) (floor_rem x m) x
+unfolding floor_rem
 floor-class x m = branch (lt_test (rem_z x m) (pos 0)) (λ t. Cong (nat_abs m) t x) (λ h. above) (λ h. rem-class x m)
   where
     above : Cong (nat_abs m) (rem_z x m +ℤ pos (nat_abs m)) x
@@ -78,19 +78,19 @@ same-residue n a b h k l m d =
     let z : a -ℤ b ≡ pos 0 = d.is ∙ ap (λ t. t *ℤ pos n) (small-multiple d.by (pos n) s) ∙ zero-*ℤ (pos n) in
     omega (ints, sub a b)
 
-pub floor-only : (x m r : ℤ) → m ≢ pos 0 → pos 0 ≤ℤ r → r <ℤ pos (nat_abs m) → Cong (nat_abs m) r x → r ≡ floorRem x m
-floor-only x m r nz h k d = same-residue (nat_abs m) r (floorRem x m) h k (floor-low x m nz) (floor-high x m nz) (Cong-trans r x (floorRem x m) d (Cong-sym (floorRem x m) x (floor-class x m)))
+pub floor-only : (x m r : ℤ) → m ≢ pos 0 → pos 0 ≤ℤ r → r <ℤ pos (nat_abs m) → Cong (nat_abs m) r x → r ≡ floor_rem x m
+floor-only x m r nz h k d = same-residue (nat_abs m) r (floor_rem x m) h k (floor-low x m nz) (floor-high x m nz) (Cong-trans r x (floor_rem x m) d (Cong-sym (floor_rem x m) x (floor-class x m)))
 
 -- ---- the code's way: r + m for a positive m, r - m for a negative one
 module _ {w : Width} (x m : ℤ) (q : SFits w m) (d : rem_z x m <ℤ pos 0) (nz : m ≢ pos 0) where
   pub floor-add-fits : pos 0 <ℤ m → SFits w (rem_z x m +ℤ m)
   floor-add-fits h = omega (machine, range q, rem-small x m nz, abs (rem_z x m), abs m)
 
-  pub floor-add : pos 0 <ℤ m → rem_z x m +ℤ m ≡ floorRem x m
+  pub floor-add : pos 0 <ℤ m → rem_z x m +ℤ m ≡ floor_rem x m
   floor-add h = let e : m ≡ pos (nat_abs m) = omega (ints, abs m) in ap (λ t. rem_z x m +ℤ t) e ∙ sym (floor-down x m d)
 
   pub floor-sub-fits : m <ℤ pos 0 → SFits w (rem_z x m -ℤ m)
   floor-sub-fits h = omega (machine, range q, rem-small x m nz, abs (rem_z x m), abs m)
 
-  pub floor-sub : m <ℤ pos 0 → rem_z x m -ℤ m ≡ floorRem x m
+  pub floor-sub : m <ℤ pos 0 → rem_z x m -ℤ m ≡ floor_rem x m
   floor-sub h = let e : neg_ℤ m ≡ pos (nat_abs m) = omega (ints, abs m, neg m) in ap (λ t. rem_z x m +ℤ t) e ∙ sym (floor-down x m d)

@@ -11,7 +11,7 @@ use lib.IntN.{ℤ, pos, negsuc, suc_ℤ, pred_ℤ, neg_ℤ, nat_abs, sub_ℕ, �
 use lib.Signed.{◌≤ℤ◌, ◌<ℤ◌, le_z, lt_z, le_z_yes, lt_z_yes}
 use Rattle.whole.specs.Choice.{pick}
 use Rattle.whole.specs.Test.{◌≤?◌}
-use Rattle.whole.specs.Whole.{up, dn, ◌⊖◌, minℤ, maxℤ}
+use Rattle.whole.specs.Whole.{up, dn, ◌⊖◌, min_ℤ, max_ℤ}
 
 -- ---- a statement of ℤ, and what it says of the parts: the rules that turn hypotheses (`from-`) and goals (`to-`)
 
@@ -121,29 +121,29 @@ prod (negsuc a) (pos b) = omega (arith, neg (pos (suc a * b)))
 prod (negsuc a) (negsuc b) = omega arith
 
 -- ---- the tests, as conditions leave them
-pub leZ-no : {a b : ℤ} → T (not (le_z a b)) → b <ℤ a
-leZ-no {a} {b} t = to-< b a (from-≰ {a = a} {b = b} λ h. T_not (le_z a b) t h.le)
+pub le_z-no : {a b : ℤ} → T (not (le_z a b)) → b <ℤ a
+le_z-no {a} {b} t = to-< b a (from-≰ {a = a} {b = b} λ h. T_not (le_z a b) t h.le)
 
 pub split : (a b : ℤ) → (a ≤ℤ b) ⊎ (b <ℤ a)
-split a b = go (le_z a b) (λ t. le_z_yes t) (λ t. leZ-no t)
+split a b = go (le_z a b) (λ t. le_z_yes t) (λ t. le_z-no t)
   where
     go : (c : Bool) → (T c → a ≤ℤ b) → (T (not c) → b <ℤ a) → (a ≤ℤ b) ⊎ (b <ℤ a)
     go true f g = inl (f tt)
     go false f g = inr (g tt)
 
-min-max : (a b : ℤ) → ((a ≤ℤ b) × ((minℤ a b ≡ a) × (maxℤ a b ≡ b))) ⊎ ((b <ℤ a) × ((minℤ a b ≡ b) × (maxℤ a b ≡ a)))
-unfolding minℤ maxℤ ◌≤?◌
-min-max a b = go (le_z a b) (λ t. le_z_yes t) (λ t. leZ-no t)
+min-max : (a b : ℤ) → ((a ≤ℤ b) × ((min_ℤ a b ≡ a) × (max_ℤ a b ≡ b))) ⊎ ((b <ℤ a) × ((min_ℤ a b ≡ b) × (max_ℤ a b ≡ a)))
+unfolding min_ℤ max_ℤ ◌≤?◌
+min-max a b = go (le_z a b) (λ t. le_z_yes t) (λ t. le_z-no t)
   where
     go : (c : Bool) → (T c → a ≤ℤ b) → (T (not c) → b <ℤ a) → ((a ≤ℤ b) × ((pick c a b ≡ a) × (pick c b a ≡ b))) ⊎ ((b <ℤ a) × ((pick c a b ≡ b) × (pick c b a ≡ a)))
     go true f g = inl (f tt, (refl, refl))
     go false f g = inr (g tt, (refl, refl))
 
 -- the least and the greatest of two, as two cases that `omega` splits: `min` and `max` are those of ℕ
-pub least : (a b : ℤ) → up (minℤ a b) + (dn a + dn b) ≡ dn (minℤ a b) + min (up a + dn b) (up b + dn a)
+pub least : (a b : ℤ) → up (min_ℤ a b) + (dn a + dn b) ≡ dn (min_ℤ a b) + min (up a + dn b) (up b + dn a)
 least a b = elim (min-max a b) [ inl h ↦ omega ints | inr h ↦ omega ints ]
 
-pub greatest : (a b : ℤ) → up (maxℤ a b) + (dn a + dn b) ≡ dn (maxℤ a b) + max (up a + dn b) (up b + dn a)
+pub greatest : (a b : ℤ) → up (max_ℤ a b) + (dn a + dn b) ≡ dn (max_ℤ a b) + max (up a + dn b) (up b + dn a)
 greatest a b = elim (min-max a b) [ inl h ↦ omega ints | inr h ↦ omega ints ]
 
 -- ---- the normal form of `simp`: each term a difference of natural numbers, each statement one between natural numbers
@@ -175,10 +175,10 @@ module _ (a b c d : ℕ) where
     ap (λ t. b * t) (diff c d),
   )
 
-  pub ⊖-min : minℤ (a ⊖ b) (c ⊖ d) ≡ (min (a + d) (c + b) ⊖ (b + d))
+  pub ⊖-min : min_ℤ (a ⊖ b) (c ⊖ d) ≡ (min (a + d) (c + b) ⊖ (b + d))
   ⊖-min = omega (ints, diff a b, diff c d, diff (min (a + d) (c + b)) (b + d), least (a ⊖ b) (c ⊖ d))
 
-  pub ⊖-max : maxℤ (a ⊖ b) (c ⊖ d) ≡ (max (a + d) (c + b) ⊖ (b + d))
+  pub ⊖-max : max_ℤ (a ⊖ b) (c ⊖ d) ≡ (max (a + d) (c + b) ⊖ (b + d))
   ⊖-max = omega (ints, diff a b, diff c d, diff (max (a + d) (c + b)) (b + d), greatest (a ⊖ b) (c ⊖ d))
 
 module _ (a b : ℕ) where

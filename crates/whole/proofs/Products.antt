@@ -12,11 +12,11 @@ use lib.Pow.{pow_pos}
 use mir.Syntax.{Width, w64}
 use mir.Val.{SFits, hbits}
 use Rattle.whole.specs.Test.{◌≤?◌, ◌<?◌}
-use Rattle.whole.specs.Whole.{minℤ, maxℤ}
-use Rattle.whole.specs.Range.{least, greatest, fits?, clamp, limitOf}
+use Rattle.whole.specs.Whole.{min_ℤ, max_ℤ}
+use Rattle.whole.specs.Range.{least, greatest, fits?, clamp, limit_of}
 use Rattle.whole.proofs.Linear.{ints, abs, sum, sub}
 use Rattle.whole.proofs.Shapes.{lin}
-use Rattle.whole.proofs.Ring.{mul-nonneg, mul-nonpos-l, mul-nonpos-r, mul-nonneg-neg, natAbs-*ℤ}
+use Rattle.whole.proofs.Ring.{mul-nonneg, mul-nonpos-l, mul-nonpos-r, mul-nonneg-neg, nat_abs-*ℤ}
 use Rattle.whole.proofs.Fits.{machine, range}
 use Rattle.whole.proofs.Decides.{Beyond, Decides, leb-test, ltb-test, le_test, lt_test, branch, fits-test, same_test, yes, no, is_true, is_false, is-fit, not_beyond}
 
@@ -46,10 +46,10 @@ module _ (w : Width) (z : ℤ) where
 
 module _ (w : Width) (x y : ℤ) where
   pub product-up : pos 0 ≤ℤ (x *ℤ y) → leb (nat_abs x * nat_abs y) (2 ^ hbits w - 1) ≡ fits? w (x *ℤ y)
-  product-up h = rw (sym (natAbs-*ℤ x y)) (fits-up w (x *ℤ y) h)
+  product-up h = rw (sym (nat_abs-*ℤ x y)) (fits-up w (x *ℤ y) h)
 
   pub product-down : (x *ℤ y) ≤ℤ pos 0 → leb (nat_abs x * nat_abs y) (2 ^ hbits w) ≡ fits? w (x *ℤ y)
-  product-down h = rw (sym (natAbs-*ℤ x y)) (fits-down w (x *ℤ y) h)
+  product-down h = rw (sym (nat_abs-*ℤ x y)) (fits-down w (x *ℤ y) h)
 
 -- ---- the nearest number of the width
 module _ (w : Width) (z : ℤ) where
@@ -112,8 +112,8 @@ module _ (w : Width) (x y : ℤ) (h : fits? w (x *ℤ y) ≡ false) where
   clamp-pp s t = clamp-high w (x *ℤ y) h (sign-pp x y (no (lt_test x (pos 0)) s) (no (lt_test y (pos 0)) t))
 
 -- a product fits exactly if its magnitude is at most the limit that the signs set
-pub limited : (x y : ℤ) → leb (nat_abs x * nat_abs y) (limitOf x y) ≡ fits? w64 (x *ℤ y)
-unfolding limitOf
+pub limited : (x y : ℤ) → leb (nat_abs x * nat_abs y) (limit_of x y) ≡ fits? w64 (x *ℤ y)
+unfolding limit_of
 limited x y =
     branch (lt_test x (pos 0)) P
     (λ h. branch (lt_test y (pos 0)) P (λ k. product-up w64 x y (sign-nn x y h k)) (λ k. product-down w64 x y (sign-np x y h k)))
@@ -138,8 +138,8 @@ module _ (w : Width) (z : ℤ) where
 
 module _ (w : Width) (x y : ℤ) (p : SFits w x) (q : SFits w y) where
   -- the sum that is made, and that it fits
-  pub held_low : x <ℤ pos 0 → (SFits w (x +ℤ maxℤ y (least w -ℤ x))) × (x +ℤ maxℤ y (least w -ℤ x) ≡ clamp w (x +ℤ y))
-  unfolding maxℤ
+  pub held_low : x <ℤ pos 0 → (SFits w (x +ℤ max_ℤ y (least w -ℤ x))) × (x +ℤ max_ℤ y (least w -ℤ x) ≡ clamp w (x +ℤ y))
+  unfolding max_ℤ
   held_low h =
       branch (le_test y (least w -ℤ x)) P
       (λ k. let e : x +ℤ (least w -ℤ x) ≡ least w = omega (lin, sub (least w) x) in
@@ -150,8 +150,8 @@ module _ (w : Width) (x y : ℤ) (p : SFits w x) (q : SFits w y) where
       P : ℤ → Type 0
       P m = SFits w (x +ℤ m) × (x +ℤ m ≡ clamp w (x +ℤ y))
 
-  pub held_high : pos 0 ≤ℤ x → (SFits w (x +ℤ minℤ y (greatest w -ℤ x))) × (x +ℤ minℤ y (greatest w -ℤ x) ≡ clamp w (x +ℤ y))
-  unfolding minℤ
+  pub held_high : pos 0 ≤ℤ x → (SFits w (x +ℤ min_ℤ y (greatest w -ℤ x))) × (x +ℤ min_ℤ y (greatest w -ℤ x) ≡ clamp w (x +ℤ y))
+  unfolding min_ℤ
   held_high h =
       branch (le_test y (greatest w -ℤ x)) P
       (λ k. let f : SFits w (x +ℤ y) = omega (machine, range p, range q, sub (greatest w) x) in

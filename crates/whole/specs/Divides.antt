@@ -27,5 +27,5 @@ abbrev pub Cong : ℕ → ℤ → ℤ → Type 0
 Cong m x c = pos m ∣ℤ (x -ℤ c)
 
 -- the number from 0 to |m| - 1 that differs from x by a multiple of m; x itself if m is 0
-unfoldable pub floorRem : ℤ → ℤ → ℤ
-floorRem x m = pick (rem_z x m <? pos 0) (rem_z x m +ℤ pos (nat_abs m)) (rem_z x m)
+unfoldable pub floor_rem : ℤ → ℤ → ℤ
+floor_rem x m = pick (rem_z x m <? pos 0) (rem_z x m +ℤ pos (nat_abs m)) (rem_z x m)

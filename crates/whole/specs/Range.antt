@@ -19,8 +19,8 @@ unfoldable pub clamp : Width → ℤ → ℤ
 clamp w z = pick (z <? least w) (least w) (pick (greatest w <? z) (greatest w) z)
 
 -- the greatest magnitude of a product of 64 bits that fits, by the signs of the two
-unfoldable pub limitOf : ℤ → ℤ → ℕ
-limitOf x y =
+unfoldable pub limit_of : ℤ → ℤ → ℕ
+limit_of x y =
     pick (x <? pos 0)
     (pick (y <? pos 0) 9223372036854775807 9223372036854775808)
     (pick (y <? pos 0) 9223372036854775808 9223372036854775807)

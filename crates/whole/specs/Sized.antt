@@ -13,6 +13,6 @@ width_of B32 = w32
 width_of B64 = w64
 
 -- the number, if it is also one of this width
-unfoldable pub heldTo : Width → Exact → Exact
-heldTo w (Is z) = exactly w z
-heldTo w DoesNotFit = DoesNotFit
+unfoldable pub held_to : Width → Exact → Exact
+held_to w (Is z) = exactly w z
+held_to w DoesNotFit = DoesNotFit

@@ -18,17 +18,17 @@ infixl 6 ◌⊖◌
 unfoldable pub ◌⊖◌ : ℕ → ℕ → ℤ
 a ⊖ b = sub_ℕ a b
 
-unfoldable pub minℤ : ℤ → ℤ → ℤ
-minℤ a b = pick (a ≤? b) a b
+unfoldable pub min_ℤ : ℤ → ℤ → ℤ
+min_ℤ a b = pick (a ≤? b) a b
 
-unfoldable pub maxℤ : ℤ → ℤ → ℤ
-maxℤ a b = pick (a ≤? b) b a
+unfoldable pub max_ℤ : ℤ → ℤ → ℤ
+max_ℤ a b = pick (a ≤? b) b a
 
 abbrev pub min4 : ℤ → ℤ → ℤ → ℤ → ℤ
-min4 a b c d = minℤ (minℤ a b) (minℤ c d)
+min4 a b c d = min_ℤ (min_ℤ a b) (min_ℤ c d)
 
 abbrev pub max4 : ℤ → ℤ → ℤ → ℤ → ℤ
-max4 a b c d = maxℤ (maxℤ a b) (maxℤ c d)
+max4 a b c d = max_ℤ (max_ℤ a b) (max_ℤ c d)
 
 -- the two orders, for a statement with sums in it: `◌≤ℤ◌` binds tighter than `◌+ℤ◌`, and asks for brackets
 infix 4 ◌≼◌ ◌≺◌

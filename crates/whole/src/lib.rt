@@ -3,12 +3,12 @@
 ghost use Rattle.std.specs.Prelude.{◌≡◌, Bool, true, false, ◌&&◌, ℕ, ◌*◌, leb, ltb, ℤ, pos, negsuc, neg_ℤ, nat_abs, ◌+ℤ◌, ◌-ℤ◌, ◌*ℤ◌};
 ghost use Rattle.std.specs.Int.Signed.{quot_z, rem_z};
 ghost use Rattle.std.specs.Int.{w64};
-ghost use Rattle.whole.specs.Whole.{up, minℤ, maxℤ, min4, max4};
+ghost use Rattle.whole.specs.Whole.{up, min_ℤ, max_ℤ, min4, max4};
 ghost use Rattle.whole.specs.Test.{◌≤?◌};
-ghost use Rattle.whole.specs.Range.{least, greatest, fits?, clamp, limitOf};
+ghost use Rattle.whole.specs.Range.{least, greatest, fits?, clamp, limit_of};
 ghost use Rattle.whole.specs.Divides as divides;
 ghost use Rattle.whole.specs.Exact.{exactly};
-ghost use Rattle.whole.specs.Sized.{width_of, heldTo};
+ghost use Rattle.whole.specs.Sized.{width_of, held_to};
 
 pub const MAX: i64 = 9223372036854775807;
 
@@ -33,13 +33,13 @@ pub enum Order {
 // ---- the least and the greatest
 
 pub fn min_of(a: i64, b: i64) -> i64
-    ensures { result ≡ minℤ a b }
+    ensures { result ≡ min_ℤ a b }
 {
     if a <= b { a } else { b }
 }
 
 pub fn max_of(a: i64, b: i64) -> i64
-    ensures { result ≡ maxℤ a b }
+    ensures { result ≡ max_ℤ a b }
 {
     if a <= b { b } else { a }
 }
@@ -114,7 +114,7 @@ fn product_within(a: u64, b: u64, limit: u64) -> bool
 
 // The greatest magnitude of a product that fits: |MIN| where the signs differ, else MAX.
 fn product_limit(x: i64, y: i64) -> u64
-    ensures { result ≡ limitOf x y }
+    ensures { result ≡ limit_of x y }
 {
     if x < 0 {
         if y < 0 {
@@ -234,7 +234,7 @@ pub fn remainder(x: i64, m: i64) -> i64
 
 // The number from 0 to |m| - 1 that differs from x by a multiple of m; x itself if m is 0.
 pub fn floored_remainder(x: i64, m: i64) -> i64
-    ensures { result ≡ divides.floorRem x m }
+    ensures { result ≡ divides.floor_rem x m }
 {
     if m == 0 {
         return x;
@@ -369,7 +369,7 @@ impl Size {
 
     // An exact number, if it is also one of the width.
     pub fn held(self, e: Exact) -> Exact
-        ensures { result ≡ heldTo (width_of self) e }
+        ensures { result ≡ held_to (width_of self) e }
     {
         match e {
             Exact::Is(x) => self.exact(x),

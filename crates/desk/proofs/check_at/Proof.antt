@@ -3,7 +3,7 @@ use mathlib.Core.Path.{◌≡◌, refl, sym, ap, ◌∙◌}
 use native.Mathlib.Omega.{arith}
 use Rattle.whole.specs.Sized.{width_of}
 use Rattle.refusal.specs.Number.{number_of}
-use Rattle.sheet.specs.Answer.{readTold}
+use Rattle.sheet.specs.Answer.{read_told}
 use Rattle.panel.proofs.Answers.{listed, read_at, never-short}
 use Rattle.desk.proofs.Answers.{checks-read, checks-refused}
 use borrow.Author.Rules.{rules}
@@ -23,7 +23,7 @@ returns : tie.Need-returns
 returns c =
     let g = c.before.before.n.given in
     let d = c.before.before.before.before.before.read.ensures in
-    let l = listed c.before.before.before.before.before.before.before.before.args.bytes.now _ _ g.0.0 (sym (ap readTold g.1) ∙ d.0) d.1 in
+    let l = listed c.before.before.before.before.before.before.before.before.args.bytes.now _ _ g.0.0 (sym (ap read_told g.1) ∙ d.0) d.1 in
     absurd (omega (arith, l.few, c.if1.true))
 
 mul-e : tie.Need-overflow-mul-e
@@ -55,7 +55,7 @@ returns-2 c =
     let a = c.before.before.before.before.before.before.before.before.before.before.before.before.before.args in
     let g = c.before.before.before.before.before.before.before.n.given in
     let d = c.before.before.before.before.before.before.before.before.before.before.read.ensures in
-    let l = listed a.bytes.now _ _ g.0.0 (sym (ap readTold g.1) ∙ d.0) d.1 in
+    let l = listed a.bytes.now _ _ g.0.0 (sym (ap read_told g.1) ∙ d.0) d.1 in
     let z : g.0.0 * 4 - 0 ≡ g.0.0 * 4 = omega arith in
     rw (checks-read (width_of a.size) a.bytes.now a.room.now l.steps l.end l.parsed, ← l.back) (rw z at c.before.check-listed.ensures)
 
@@ -64,7 +64,7 @@ returns-3 c =
     let a = c.before.before.before.before.before.before.before.args in
     let g = c.before.r.given in
     let d = c.before.before.before.before.read.ensures in
-    let e = read_at a.bytes.now _ (number_of g.0.0) g.0.1.0 (sym (ap readTold g.1) ∙ d.0) in
+    let e = read_at a.bytes.now _ (number_of g.0.0) g.0.1.0 (sym (ap read_told g.1) ∙ d.0) in
     rw (checks-refused (width_of a.size) a.bytes.now a.room.now (number_of g.0.0) g.0.1.0 e) (refl, refl)
 
 returns-4 : tie.Need-returns-4
@@ -72,7 +72,7 @@ returns-4 c =
     let a = c.before.before.before.before.before.before.before.args in
     let g = c.before.r2.given in
     let d = c.before.before.before.before.read.ensures in
-    absurd (never-short a.bytes.now _ (number_of g.0.0) (omega arith) (sym (ap readTold g.1) ∙ d.0))
+    absurd (never-short a.bytes.now _ (number_of g.0.0) (omega arith) (sym (ap read_told g.1) ∙ d.0))
 
 pub check-at-spec : {M : Type 1} → statement M
 check-at-spec =

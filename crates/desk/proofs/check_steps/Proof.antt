@@ -3,7 +3,7 @@ use mathlib.Core.Path.{sym, ap, ◌∙◌}
 use native.Mathlib.Omega.{arith}
 use borrow.Author.Rules.{rules}
 use Rattle.whole.specs.Sized.{width_of}
-use Rattle.step.specs.Show.{shownTold}
+use Rattle.step.specs.Show.{shown_told}
 use Rattle.desk.proofs.Walk.{Walked, walked_start, walked-length, walked_next, walked-stops, walked-ends}
 use Rattle.desk.proofs.check_steps.Statement.{statement}
 use Rattle.desk.proofs.check_steps.Tie as tie
@@ -49,7 +49,7 @@ loop-again c =
     let a = c.before.before.before.before.before.before.before.before.before.before.before in
     let lt = c.before.before.before.before.before.before.before.before.before.loop-test.true in
     let g = c.before.before.before.before.v.given in
-    (omega arith, walked_next a.args.n a.requires.1 x.invariant.1 lt (omega (arith, a.requires.2)) c.before.before.before.before.before.before.before.before.action-at.result g.0.0 c.before.before.before.before.before.before.before.before.action-at.ensures (sym c.before.before.before.before.before.before.Shown-of.ensures ∙ ap shownTold g.1) _ c.before.put.ensures)
+    (omega arith, walked_next a.args.n a.requires.1 x.invariant.1 lt (omega (arith, a.requires.2)) c.before.before.before.before.before.before.before.before.action-at.result g.0.0 c.before.before.before.before.before.before.before.before.action-at.ensures (sym c.before.before.before.before.before.before.Shown-of.ensures ∙ ap shown_told g.1) _ c.before.put.ensures)
 
 enum-known-r : tie.Need-enum-known-r invariant-loop decreases-loop
 enum-known-r c = search rules
@@ -63,7 +63,7 @@ returns c =
     let a = c.before.before.before.before.before.before.before.before in
     let lt = c.before.before.before.before.before.before.loop-test.true in
     let g = c.before.r.given in
-    walked-stops a.args.n a.requires.1 x.invariant.1 lt (omega (arith, a.requires.2)) c.before.before.before.before.before.action-at.result g.0.0 c.before.before.before.before.before.action-at.ensures (sym c.before.before.before.Shown-of.ensures ∙ ap shownTold g.1)
+    walked-stops a.args.n a.requires.1 x.invariant.1 lt (omega (arith, a.requires.2)) c.before.before.before.before.before.action-at.result g.0.0 c.before.before.before.before.before.action-at.ensures (sym c.before.before.before.Shown-of.ensures ∙ ap shown_told g.1)
 
 same-length-2 : tie.Need-same-length-2 invariant-loop decreases-loop
 same-length-2 c = walked-length c.before.loop.invariant.1 (omega (arith, c.before.before.requires.2, c.before.loop.invariant.0))

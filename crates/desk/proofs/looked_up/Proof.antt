@@ -6,13 +6,13 @@ use lib.IntN.{pos}
 use lib.ListN.{get_or}
 use mir.Syntax.{w64}
 use mir.Val.{to_z, of_z}
-use Rattle.desk.specs.Five.{lookedUp, shownIn}
+use Rattle.desk.specs.Five.{looked_up, shown_in}
 use borrow.Author.Rules.{rules}
 use Rattle.desk.proofs.looked_up.Statement.{statement}
 use Rattle.desk.proofs.looked_up.Tie as tie
 
 returns : tie.Need-returns
-unfolding lookedUp shownIn
+unfolding looked_up shown_in
 returns c = rw (le-ltb c.before.args.p c.before.args.k c.if1.true) refl
 
 mul-i : tie.Need-overflow-mul-i
@@ -67,7 +67,7 @@ shared-slice-copy-out-t27 : tie.Need-shared-slice-copy-out-t27
 shared-slice-copy-out-t27 c = search rules
 
 returns-2 : tie.Need-returns-2
-unfolding lookedUp shownIn
+unfolding looked_up shown_in
 returns-2 c =
     let a = c.before.before.before.before.before.before.before.before.args in
     let l = a.room.now in

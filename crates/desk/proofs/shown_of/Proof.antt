@@ -1,4 +1,4 @@
-use Rattle.desk.specs.Answer.{stepIn}
+use Rattle.desk.specs.Answer.{step_in}
 use mir.Syntax.{w64}
 use mir.Val.{SFits}
 use mir.Facts.{to_z-of_z}
@@ -28,11 +28,11 @@ show-requires : tie.Need-show-requires
 show-requires c κs = search rules
 
 returns : tie.Need-returns
-unfolding stepIn
+unfolding step_in
 returns c = let g = c.before.before.act.given in let f : SFits w64 g.0.0 = search rules in let h : SFits w64 g.0.1.0 = search rules in rw g.1 (cc (to_z-of_z f, to_z-of_z h))
 
 returns-2 : tie.Need-returns-2
-unfolding stepIn
+unfolding step_in
 returns-2 c = rw c.before.before.before.before.before.act2.given.1 (cc)
 
 pub shown-of-spec : {M : Type 1} → statement M

@@ -1,7 +1,7 @@
 use borrow.Author.Rules.{rules}
 use Rattle.whole.proofs.Calls.{max-called}
 use Rattle.whole.proofs.Flags.{flags}
-use Rattle.interval.specs.Ends.{greatestOf}
+use Rattle.interval.specs.Ends.{greatest_of}
 use Rattle.interval.proofs.greatest_of.Statement.{statement}
 use Rattle.interval.proofs.greatest_of.Tie as tie
 
@@ -21,15 +21,15 @@ enum-told-2 : tie.Need-enum-told-2
 enum-told-2 c = search rules
 
 returns : tie.Need-returns
-unfolding greatestOf
+unfolding greatest_of
 returns c = rw (c.before.before.before.before.before.x.given.1, c.before.before.y.given.1) (search (max-called, flags))
 
 returns-2 : tie.Need-returns-2
-unfolding greatestOf
+unfolding greatest_of
 returns-2 c = cc
 
 returns-3 : tie.Need-returns-3
-unfolding greatestOf
+unfolding greatest_of
 returns-3 c = cc
 
 pub greatest-of-spec : {M : Type 1} → statement M

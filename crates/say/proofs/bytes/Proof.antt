@@ -1,5 +1,5 @@
 use borrow.Author.Rules.{rules}
-use Rattle.text.specs.Hex.{hexText}
+use Rattle.text.specs.Hex.{hex_text}
 use Rattle.say.proofs.Saying.{says-one}
 use Rattle.say.proofs.bytes.Statement.{statement}
 use Rattle.say.proofs.bytes.Tie as tie
@@ -17,7 +17,7 @@ returns : tie.Need-returns
 returns c =
     let a = c.before.before.before.before.before.before.before.args in
     let p = c.before.before.before.put-hex.ensures in
-    says-one a.out.now a.made (hexText a.b.now) _ _ _ p.0 p.1 c.after.ensures
+    says-one a.out.now a.made (hex_text a.b.now) _ _ _ p.0 p.1 c.after.ensures
 
 pub bytes-spec : {M : Type 1} → statement M
 bytes-spec = tie.close (tie.spec put-hex-requires after-requires same_length returns)

@@ -1,8 +1,8 @@
 use Rattle.sheet.proofs.Plans.{steps-count}
 use Rattle.sheet.proofs.Plans.{write-uneven, write-many, write-wrong, write-size, write-short, write-long, write-stored}
 use Rattle.sheet.proofs.Sizes.{number_size, listed-bound}
-use Rattle.sheet.specs.Found.{checkFound}
-use Rattle.sheet.specs.Sheet.{steps_of, stepsFault, bytes_of}
+use Rattle.sheet.specs.Found.{check_found}
+use Rattle.sheet.specs.Sheet.{steps_of, steps_fault, bytes_of}
 use Rattle.sheet.specs.Got.{fine}
 use lib.ListN.{length}
 use lib.IntN.{ℤ}
@@ -24,20 +24,20 @@ L w = (start w).args.steps.now
 abbrev O : tie.Else2 → List ℕ
 O w = (start w).args.out.now
 
-right : (t : tie.After-enum-told) → stepsFault 0 (steps_of (L t.before.before.before)) ≡ fine
-right t = sym t.before.before.check-listed.ensures ∙ ap checkFound t.enum_told.given.1
+right : (t : tie.After-enum-told) → steps_fault 0 (steps_of (L t.before.before.before)) ≡ fine
+right t = sym t.before.before.check-listed.ensures ∙ ap check_found t.enum_told.given.1
 
-abbrev fineAt : tie.After-listed-width → tie.After-enum-told
-fineAt w = w.before.before
+abbrev fine_at : tie.After-listed-width → tie.After-enum-told
+fine_at w = w.before.before
 
 abbrev else : tie.After-listed-width → tie.Else2
-else w = (fineAt w).before.before.before
+else w = (fine_at w).before.before.before
 
 sized : (w : tie.After-listed-width) → w.before.width.result + w.listed-width.result ≡ length (bytes_of (steps_of (L (else w))))
 sized w =
     let l = L (else w) in
     let e = else w in
-    omega (arith, w.before.width.ensures, w.listed-width.ensures, write-size l (O e) e.before.if1.left e.if2.left (right (fineAt w)))
+    omega (arith, w.before.width.ensures, w.listed-width.ensures, write-size l (O e) e.before.if1.left e.if2.left (right (fine_at w)))
 
 returns : tie.Need-returns
 returns c =
@@ -72,7 +72,7 @@ returns-3 : tie.Need-returns-3
 returns-3 c =
     let w = c.before in
     let e = else w in
-    write-short (L e) (O e) e.before.if1.left e.if2.left (right (fineAt w)) (rw (sized w) at c.if3.true)
+    write-short (L e) (O e) e.before.if1.left e.if2.left (right (fine_at w)) (rw (sized w) at c.if3.true)
 
 fill-number-requires : tie.Need-fill-number-requires
 fill-number-requires c κs = search rules
@@ -92,13 +92,13 @@ returns-4 c =
     let g = f.before.before.before.before in
     let w = g.before.before.before in
     let e = else w in
-    let r = write-long (L e) (O e) e.before.if1.left e.if2.left (right (fineAt w)) _ (sized w) g.before.before.if3.false in
-    (r.0, write-stored (L e) (O e) e.before.if1.left e.if2.left (right (fineAt w)) g.fill-number.result g.fill-number.new.0 _ g.fill-number.ensures f.fill-listed.ensures ∙ r.1)
+    let r = write-long (L e) (O e) e.before.if1.left e.if2.left (right (fine_at w)) _ (sized w) g.before.before.if3.false in
+    (r.0, write-stored (L e) (O e) e.before.if1.left e.if2.left (right (fine_at w)) g.fill-number.result g.fill-number.new.0 _ g.fill-number.ensures f.fill-listed.ensures ∙ r.1)
 
 returns-5 : tie.Need-returns-5
 returns-5 c =
     let w = c.before.before.before.before in
-    write-wrong (L w) (O w) w.before.if1.false w.if2.false _ _ (sym c.before.before.before.check-listed.ensures ∙ ap checkFound c.before.r.given.1)
+    write-wrong (L w) (O w) w.before.if1.false w.if2.false _ _ (sym c.before.before.before.check-listed.ensures ∙ ap check_found c.before.r.given.1)
 
 pub write_spec : {M : Type 1} → statement M
 write_spec =

@@ -12,21 +12,21 @@ use Rattle.whole.proofs.Decides.{yes, no, lt_test, eq_test}
 use Rattle.whole.proofs.Linear.{ints}
 use Rattle.whole.proofs.Flags.{flags, eq_no}
 use Rattle.sign.specs.declared.Sign.TheVariants.{Negative, Zero, Positive}
-use Rattle.sign.specs.Ported.{ofNumber}
+use Rattle.sign.specs.Ported.{of_number}
 use Rattle.sign.proofs.of_number.Statement.{statement}
 use Rattle.sign.proofs.of_number.Tie as tie
 
-below : (n : ℤ) → n <ℤ pos 0 → Negative ≡ ofNumber n
-unfolding ofNumber
+below : (n : ℤ) → n <ℤ pos 0 → Negative ≡ of_number n
+unfolding of_number
 below (negsuc k) h = refl
 below (pos k) h = absurd (omega ints)
 
-level : (n : ℤ) → n ≡ pos 0 → Zero ≡ ofNumber n
-unfolding ofNumber
+level : (n : ℤ) → n ≡ pos 0 → Zero ≡ of_number n
+unfolding of_number
 level n e = rw e refl
 
-above : (n : ℤ) → pos 0 ≤ℤ n → n ≢ pos 0 → Positive ≡ ofNumber n
-unfolding ofNumber
+above : (n : ℤ) → pos 0 ≤ℤ n → n ≢ pos 0 → Positive ≡ of_number n
+unfolding of_number
 above (negsuc k) h f = absurd (omega ints)
 above (pos zero) h f = absurd (f refl)
 above (pos (suc k)) h f = refl

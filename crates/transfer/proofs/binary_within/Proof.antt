@@ -2,7 +2,7 @@ use mathlib.Core.Path.{refl, ap, ◌∙◌}
 use Rattle.whole.specs.Test.{◌≟◌}
 use Rattle.refusal.specs.Number.{number_of}
 use Rattle.refusal.specs.Answer.{refused}
-use Rattle.transfer.specs.Spacings.{yes, no, spacingOn, binaryWithin}
+use Rattle.transfer.specs.Spacings.{yes, no, spacing_on, binary_within}
 use Rattle.transfer.proofs.Keys.{key, passed, other-called}
 use borrow.Author.Rules.{rules}
 use Rattle.transfer.proofs.binary_within.Statement.{statement}
@@ -51,79 +51,79 @@ other-requires : tie.Need-other-requires
 other-requires c κs = search rules
 
 returns : tie.Need-returns
-unfolding binaryWithin ◌≟◌
+unfolding binary_within ◌≟◌
 returns c =
     let s = c.before.before.before.before in
     rw (key s.args.op _ c.before.before.natural.ensures s.ranges.op 1 c.before.match.keys1) c.add.ensures
 
 returns-2 : tie.Need-returns-2
-unfolding binaryWithin ◌≟◌
+unfolding binary_within ◌≟◌
 returns-2 c =
     let s = c.before.before.before.before in
     rw (key s.args.op _ c.before.before.natural.ensures s.ranges.op 2 c.before.match.keys2) c.sub.ensures
 
 returns-3 : tie.Need-returns-3
-unfolding binaryWithin ◌≟◌
+unfolding binary_within ◌≟◌
 returns-3 c =
     let s = c.before.before.before.before in
     rw (key s.args.op _ c.before.before.natural.ensures s.ranges.op 3 c.before.match.keys3) c.mul.ensures
 
 returns-4 : tie.Need-returns-4
-unfolding binaryWithin ◌≟◌
+unfolding binary_within ◌≟◌
 returns-4 c =
     let s = c.before.before.before.before in
     rw (key s.args.op _ c.before.before.natural.ensures s.ranges.op 4 c.before.match.keys4) c.div.ensures
 
 returns-5 : tie.Need-returns-5
-unfolding binaryWithin ◌≟◌
+unfolding binary_within ◌≟◌
 returns-5 c =
     let s = c.before.before.before in
     rw (key s.args.op _ c.before.natural.ensures s.ranges.op 5 c.match.keys5) (refl)
 
 returns-6 : tie.Need-returns-6
-unfolding binaryWithin ◌≟◌
+unfolding binary_within ◌≟◌
 returns-6 c =
     let s = c.before.before.before.before in
     rw (key s.args.op _ c.before.before.natural.ensures s.ranges.op 6 c.before.match.keys6) c.equals.ensures
 
 returns-7 : tie.Need-returns-7
-unfolding binaryWithin ◌≟◌
+unfolding binary_within ◌≟◌
 returns-7 c =
     let s = c.before.before.before.before in
     rw (key s.args.op _ c.before.before.natural.ensures s.ranges.op 7 c.before.match.keys7) c.logical-and.ensures
 
 returns-8 : tie.Need-returns-8
-unfolding binaryWithin ◌≟◌
+unfolding binary_within ◌≟◌
 returns-8 c =
     let s = c.before.before.before.before in
     rw (key s.args.op _ c.before.before.natural.ensures s.ranges.op 8 c.before.match.keys8) c.logical-or.ensures
 
 returns-9 : tie.Need-returns-9
-unfolding binaryWithin ◌≟◌
+unfolding binary_within ◌≟◌
 returns-9 c =
     let s = c.before.before.before.before in
-    rw (key s.args.op _ c.before.before.natural.ensures s.ranges.op 9 c.before.match.keys9) (c.spacing-on.ensures ∙ ap (λ o. spacingOn o yes no no) c.before.before.before.strict-cmp.ensures)
+    rw (key s.args.op _ c.before.before.natural.ensures s.ranges.op 9 c.before.match.keys9) (c.spacing-on.ensures ∙ ap (λ o. spacing_on o yes no no) c.before.before.before.strict-cmp.ensures)
 
 returns-10 : tie.Need-returns-10
-unfolding binaryWithin ◌≟◌
+unfolding binary_within ◌≟◌
 returns-10 c =
     let s = c.before.before.before.before in
-    rw (key s.args.op _ c.before.before.natural.ensures s.ranges.op 10 c.before.match.keys10) (c.spacing-on2.ensures ∙ ap (λ o. spacingOn o no no yes) c.before.before.before.strict-cmp.ensures)
+    rw (key s.args.op _ c.before.before.natural.ensures s.ranges.op 10 c.before.match.keys10) (c.spacing-on2.ensures ∙ ap (λ o. spacing_on o no no yes) c.before.before.before.strict-cmp.ensures)
 
 returns-11 : tie.Need-returns-11
-unfolding binaryWithin ◌≟◌
+unfolding binary_within ◌≟◌
 returns-11 c =
     let s = c.before.before.before.before in
-    rw (key s.args.op _ c.before.before.natural.ensures s.ranges.op 11 c.before.match.keys11) (c.spacing-on3.ensures ∙ ap (λ o. spacingOn o yes yes no) c.before.before.before.strict-cmp.ensures)
+    rw (key s.args.op _ c.before.before.natural.ensures s.ranges.op 11 c.before.match.keys11) (c.spacing-on3.ensures ∙ ap (λ o. spacing_on o yes yes no) c.before.before.before.strict-cmp.ensures)
 
 returns-12 : tie.Need-returns-12
-unfolding binaryWithin ◌≟◌
+unfolding binary_within ◌≟◌
 returns-12 c =
     let s = c.before.before.before.before in
-    rw (key s.args.op _ c.before.before.natural.ensures s.ranges.op 12 c.before.match.keys12) (c.spacing-on4.ensures ∙ ap (λ o. spacingOn o no yes yes) c.before.before.before.strict-cmp.ensures)
+    rw (key s.args.op _ c.before.before.natural.ensures s.ranges.op 12 c.before.match.keys12) (c.spacing-on4.ensures ∙ ap (λ o. spacing_on o no yes yes) c.before.before.before.strict-cmp.ensures)
 
 returns-13 : tie.Need-returns-13
-unfolding binaryWithin
+unfolding binary_within
 returns-13 c =
     let s = c.before.before.before.before in
     let f = passed s.args.op _ c.before.before.natural.ensures s.ranges.op in

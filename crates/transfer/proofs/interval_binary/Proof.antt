@@ -2,7 +2,7 @@ use mathlib.Core.Path.{refl, ap, ◌∙◌}
 use Rattle.whole.specs.Test.{◌≟◌}
 use Rattle.refusal.specs.Number.{number_of}
 use Rattle.refusal.specs.Answer.{is, refused}
-use Rattle.transfer.specs.Ranges.{yes, no, rangeBy, intervalBinary}
+use Rattle.transfer.specs.Ranges.{yes, no, range_by, interval_binary}
 use Rattle.transfer.proofs.Keys.{key, passed, other-called}
 use borrow.Author.Rules.{rules}
 use Rattle.transfer.proofs.interval_binary.Statement.{statement}
@@ -54,79 +54,79 @@ other-requires : tie.Need-other-requires
 other-requires c κs = search rules
 
 returns : tie.Need-returns
-unfolding intervalBinary ◌≟◌
+unfolding interval_binary ◌≟◌
 returns c =
     let s = c.before.before.before.before.before in
     rw (key s.args.op _ c.before.before.natural.ensures s.ranges.op 1 c.before.match.keys1) (ap is c.add.ensures)
 
 returns-2 : tie.Need-returns-2
-unfolding intervalBinary ◌≟◌
+unfolding interval_binary ◌≟◌
 returns-2 c =
     let s = c.before.before.before.before.before in
     rw (key s.args.op _ c.before.before.natural.ensures s.ranges.op 2 c.before.match.keys2) c.sub.ensures
 
 returns-3 : tie.Need-returns-3
-unfolding intervalBinary ◌≟◌
+unfolding interval_binary ◌≟◌
 returns-3 c =
     let s = c.before.before.before.before.before in
     rw (key s.args.op _ c.before.before.natural.ensures s.ranges.op 3 c.before.match.keys3) (ap is c.mul.ensures)
 
 returns-4 : tie.Need-returns-4
-unfolding intervalBinary ◌≟◌
+unfolding interval_binary ◌≟◌
 returns-4 c =
     let s = c.before.before.before.before in
     rw (key s.args.op _ c.before.natural.ensures s.ranges.op 4 c.match.keys4) (refl)
 
 returns-5 : tie.Need-returns-5
-unfolding intervalBinary ◌≟◌
+unfolding interval_binary ◌≟◌
 returns-5 c =
     let s = c.before.before.before.before.before in
     rw (key s.args.op _ c.before.before.natural.ensures s.ranges.op 5 c.before.match.keys5) c.rem.ensures
 
 returns-6 : tie.Need-returns-6
-unfolding intervalBinary ◌≟◌
+unfolding interval_binary ◌≟◌
 returns-6 c =
     let s = c.before.before.before.before.before in
     rw (key s.args.op _ c.before.before.natural.ensures s.ranges.op 6 c.before.match.keys6) (ap is c.equals.ensures)
 
 returns-7 : tie.Need-returns-7
-unfolding intervalBinary ◌≟◌
+unfolding interval_binary ◌≟◌
 returns-7 c =
     let s = c.before.before.before.before.before in
     rw (key s.args.op _ c.before.before.natural.ensures s.ranges.op 7 c.before.match.keys7) (ap is c.logical-and.ensures)
 
 returns-8 : tie.Need-returns-8
-unfolding intervalBinary ◌≟◌
+unfolding interval_binary ◌≟◌
 returns-8 c =
     let s = c.before.before.before.before.before in
     rw (key s.args.op _ c.before.before.natural.ensures s.ranges.op 8 c.before.match.keys8) (ap is c.logical-or.ensures)
 
 returns-9 : tie.Need-returns-9
-unfolding intervalBinary ◌≟◌
+unfolding interval_binary ◌≟◌
 returns-9 c =
     let s = c.before.before.before.before.before in
-    rw (key s.args.op _ c.before.before.natural.ensures s.ranges.op 9 c.before.match.keys9) (ap is (c.range-by.ensures ∙ ap (λ o. rangeBy o yes no no) c.before.before.before.before.strict-cmp.ensures))
+    rw (key s.args.op _ c.before.before.natural.ensures s.ranges.op 9 c.before.match.keys9) (ap is (c.range-by.ensures ∙ ap (λ o. range_by o yes no no) c.before.before.before.before.strict-cmp.ensures))
 
 returns-10 : tie.Need-returns-10
-unfolding intervalBinary ◌≟◌
+unfolding interval_binary ◌≟◌
 returns-10 c =
     let s = c.before.before.before.before.before in
-    rw (key s.args.op _ c.before.before.natural.ensures s.ranges.op 10 c.before.match.keys10) (ap is (c.range-by2.ensures ∙ ap (λ o. rangeBy o no no yes) c.before.before.before.before.strict-cmp.ensures))
+    rw (key s.args.op _ c.before.before.natural.ensures s.ranges.op 10 c.before.match.keys10) (ap is (c.range-by2.ensures ∙ ap (λ o. range_by o no no yes) c.before.before.before.before.strict-cmp.ensures))
 
 returns-11 : tie.Need-returns-11
-unfolding intervalBinary ◌≟◌
+unfolding interval_binary ◌≟◌
 returns-11 c =
     let s = c.before.before.before.before.before in
-    rw (key s.args.op _ c.before.before.natural.ensures s.ranges.op 11 c.before.match.keys11) (ap is (c.range-by3.ensures ∙ ap (λ o. rangeBy o yes yes no) c.before.before.before.weak-cmp.ensures))
+    rw (key s.args.op _ c.before.before.natural.ensures s.ranges.op 11 c.before.match.keys11) (ap is (c.range-by3.ensures ∙ ap (λ o. range_by o yes yes no) c.before.before.before.weak-cmp.ensures))
 
 returns-12 : tie.Need-returns-12
-unfolding intervalBinary ◌≟◌
+unfolding interval_binary ◌≟◌
 returns-12 c =
     let s = c.before.before.before.before.before in
-    rw (key s.args.op _ c.before.before.natural.ensures s.ranges.op 12 c.before.match.keys12) (ap is (c.range-by4.ensures ∙ ap (λ o. rangeBy o no yes yes) c.before.before.before.weak-cmp.ensures))
+    rw (key s.args.op _ c.before.before.natural.ensures s.ranges.op 12 c.before.match.keys12) (ap is (c.range-by4.ensures ∙ ap (λ o. range_by o no yes yes) c.before.before.before.weak-cmp.ensures))
 
 returns-13 : tie.Need-returns-13
-unfolding intervalBinary
+unfolding interval_binary
 returns-13 c =
     let s = c.before.before.before.before.before in
     let f = passed s.args.op _ c.before.before.natural.ensures s.ranges.op in

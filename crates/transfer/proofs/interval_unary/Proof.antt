@@ -2,7 +2,7 @@ use mathlib.Core.Path.{refl, ap}
 use Rattle.whole.specs.Test.{◌≟◌}
 use Rattle.refusal.specs.Number.{number_of}
 use Rattle.refusal.specs.Answer.{is, refused}
-use Rattle.transfer.specs.Ranges.{intervalUnary}
+use Rattle.transfer.specs.Ranges.{interval_unary}
 use Rattle.transfer.proofs.Keys.{key, passed, other-called}
 use borrow.Author.Rules.{rules}
 use Rattle.transfer.proofs.interval_unary.Statement.{statement}
@@ -18,19 +18,19 @@ other-requires : tie.Need-other-requires
 other-requires c κs = search rules
 
 returns : tie.Need-returns
-unfolding intervalUnary ◌≟◌
+unfolding interval_unary ◌≟◌
 returns c =
     let s = c.before.before.before in
     rw (key s.args.op _ c.before.before.natural.ensures s.ranges.op 13 c.before.match.keys1) (ap is c.logical-not.ensures)
 
 returns-2 : tie.Need-returns-2
-unfolding intervalUnary ◌≟◌
+unfolding interval_unary ◌≟◌
 returns-2 c =
     let s = c.before.before in
     rw (key s.args.op _ c.before.natural.ensures s.ranges.op 14 c.match.keys2) (refl)
 
 returns-3 : tie.Need-returns-3
-unfolding intervalUnary
+unfolding interval_unary
 returns-3 c =
     let s = c.before.before.before in
     let f = passed s.args.op _ c.before.before.natural.ensures s.ranges.op in

@@ -1,4 +1,4 @@
-use Rattle.transfer.specs.Ranges.{rangeBy}
+use Rattle.transfer.specs.Ranges.{range_by}
 use borrow.Author.Rules.{rules}
 use Rattle.transfer.proofs.range_by.Statement.{statement}
 use Rattle.transfer.proofs.range_by.Tie as tie
@@ -16,19 +16,19 @@ enum-told-4 : tie.Need-enum-told-4
 enum-told-4 c = search rules
 
 returns : tie.Need-returns
-unfolding rangeBy
+unfolding range_by
 returns c = rw c.enum_told.given.1
 
 returns-2 : tie.Need-returns-2
-unfolding rangeBy
+unfolding range_by
 returns-2 c = rw c.enum-told2.given.1
 
 returns-3 : tie.Need-returns-3
-unfolding rangeBy
+unfolding range_by
 returns-3 c = rw c.enum-told3.given.1
 
 returns-4 : tie.Need-returns-4
-unfolding rangeBy
+unfolding range_by
 returns-4 c = rw c.enum-told4.given.1
 
 pub range-by-spec : {M : Type 1} → statement M

@@ -1,6 +1,6 @@
 use mathlib.Core.Path.{ap}
 use Rattle.refusal.specs.Answer.{is}
-use Rattle.transfer.specs.Spacings.{spacingOn}
+use Rattle.transfer.specs.Spacings.{spacing_on}
 use borrow.Author.Rules.{rules}
 use Rattle.transfer.proofs.spacing_on.Statement.{statement}
 use Rattle.transfer.proofs.spacing_on.Tie as tie
@@ -15,11 +15,11 @@ enum-known-order-2 : tie.Need-enum-known-order-2
 enum-known-order-2 c = search rules
 
 returns : tie.Need-returns
-unfolding spacingOn
+unfolding spacing_on
 returns c = rw c.before.before.order.given.1 (ap is c.spacing-by.ensures)
 
 returns-2 : tie.Need-returns-2
-unfolding spacingOn
+unfolding spacing_on
 returns-2 c = rw c.before.order2.given.1
 
 pub spacing-on-spec : {M : Type 1} → statement M

@@ -2,7 +2,7 @@ use mathlib.Core.Path.{refl, ap}
 use Rattle.whole.specs.Test.{◌≟◌}
 use Rattle.refusal.specs.Number.{number_of}
 use Rattle.refusal.specs.Answer.{refused}
-use Rattle.transfer.specs.Spacings.{unaryWithin}
+use Rattle.transfer.specs.Spacings.{unary_within}
 use Rattle.transfer.proofs.Keys.{key, passed, other-called}
 use borrow.Author.Rules.{rules}
 use Rattle.transfer.proofs.unary_within.Statement.{statement}
@@ -18,19 +18,19 @@ other-requires : tie.Need-other-requires
 other-requires c κs = search rules
 
 returns : tie.Need-returns
-unfolding unaryWithin ◌≟◌
+unfolding unary_within ◌≟◌
 returns c =
     let s = c.before.before.before in
     rw (key s.args.op _ c.before.before.natural.ensures s.ranges.op 13 c.before.match.keys1) c.logical-not.ensures
 
 returns-2 : tie.Need-returns-2
-unfolding unaryWithin ◌≟◌
+unfolding unary_within ◌≟◌
 returns-2 c =
     let s = c.before.before in
     rw (key s.args.op _ c.before.natural.ensures s.ranges.op 14 c.match.keys2) (refl)
 
 returns-3 : tie.Need-returns-3
-unfolding unaryWithin
+unfolding unary_within
 returns-3 c =
     let s = c.before.before.before in
     let f = passed s.args.op _ c.before.before.natural.ensures s.ranges.op in

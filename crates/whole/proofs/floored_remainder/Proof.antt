@@ -5,7 +5,7 @@ use lib.Signed.{◌≤ℤ◌, ◌<ℤ◌, rem_z}
 use mir.Syntax.{w64}
 use mir.Val.{SFits}
 use mir.Facts.{to_z-of_z}
-use Rattle.whole.specs.Divides.{floorRem}
+use Rattle.whole.specs.Divides.{floor_rem}
 use Rattle.whole.proofs.Linear.{from-≢}
 use Rattle.whole.proofs.Shapes.{lin}
 use Rattle.whole.proofs.Fits.{zero-fits, ones-fits}

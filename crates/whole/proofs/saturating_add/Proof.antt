@@ -5,7 +5,7 @@ use mir.Syntax.{w64}
 use mir.Val.{SFits}
 use mir.Facts.{to_z-of_z}
 use borrow.Author.Rules.{rules}
-use Rattle.whole.specs.Whole.{minℤ, maxℤ}
+use Rattle.whole.specs.Whole.{min_ℤ, max_ℤ}
 use Rattle.whole.specs.Range.{least, greatest, clamp}
 use Rattle.whole.proofs.Fits.{zero-fits}
 use Rattle.whole.proofs.Flags.{lt-true, lt-false}
@@ -28,10 +28,10 @@ left-high : (c : tie.Else1) → SFits w64 (greatest w64 -ℤ c.before.args.x)
 left-high c = let f = c.before.ranges in room-above c.before.args.y c.before.args.x f.y f.x (above c)
 
 -- the number that is added
-most : (c : tie.After-max-of) → c.max_of.result ≡ maxℤ c.before.before.args.y (least w64 -ℤ c.before.before.args.x)
+most : (c : tie.After-max-of) → c.max_of.result ≡ max_ℤ c.before.before.args.y (least w64 -ℤ c.before.before.args.x)
 most c = simp (to_z-of_z c.before.before.ranges.y, to_z-of_z c.before.before.ranges.x, to_z-of_z (left-low c.before)) at c.max_of.ensures
 
-least-of : (c : tie.After-min-of) → c.min-of.result ≡ minℤ c.before.before.args.y (greatest w64 -ℤ c.before.before.args.x)
+least-of : (c : tie.After-min-of) → c.min-of.result ≡ min_ℤ c.before.before.args.y (greatest w64 -ℤ c.before.before.args.x)
 least-of c = simp (to_z-of_z c.before.before.ranges.y, to_z-of_z c.before.before.ranges.x, to_z-of_z (left-high c.before)) at c.min-of.ensures
 
 low : (c : tie.After-max-of) → SFits w64 (c.before.before.args.x +ℤ c.max_of.result) × (c.before.before.args.x +ℤ c.max_of.result ≡ clamp w64 (c.before.before.args.x +ℤ c.before.before.args.y))

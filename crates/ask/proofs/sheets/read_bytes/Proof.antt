@@ -1,5 +1,5 @@
 use mathlib.Core.Path.{sym, ap, ◌∙◌}
-use Rattle.sheet.specs.Answer.{readTold}
+use Rattle.sheet.specs.Answer.{read_told}
 use Rattle.sheet.proofs.Answered.{enough-room}
 use Rattle.say.proofs.Saying.{◌and-then◌}
 use Rattle.ask.proofs.Sheeting.{read-room, read-said, read-refused}
@@ -26,7 +26,7 @@ mul-numbers : tie.Need-overflow-mul-numbers
 mul-numbers c =
     let g = c.before.before.before.before.before.before.before.n.given in
     let r = c.before.before.before.before.before.before.before.before.before.before.read in
-    let h = read-room _ _ g.0.0 (sym r.ensures.0 ∙ ap readTold g.1) in
+    let h = read-room _ _ g.0.0 (sym r.ensures.0 ∙ ap read_told g.1) in
     search (h, rules)
 
 sub-numbers : tie.Need-overflow-sub-numbers
@@ -39,7 +39,7 @@ part-numbers-end : tie.Need-slice-bounds-numbers-end
 part-numbers-end c =
     let g = c.before.before.before.before.before.before.before.before.n.given in
     let r = c.before.before.before.before.before.before.before.before.before.before.before.read in
-    let h = read-room _ _ g.0.0 (sym r.ensures.0 ∙ ap readTold g.1) in
+    let h = read-room _ _ g.0.0 (sym r.ensures.0 ∙ ap read_told g.1) in
     search (h, rules)
 
 numbers-requires : tie.Need-numbers-requires
@@ -64,7 +64,7 @@ returns : tie.Need-returns
 returns c =
     let g = c.before.before.before.before.before.before.before.before.before.before.before.before.n.given in
     let r = c.before.before.before.before.before.before.before.before.before.before.before.before.before.before.before.read in
-    let d = sym r.ensures.0 ∙ ap readTold g.1 in
+    let d = sym r.ensures.0 ∙ ap read_told g.1 in
     rw (read-said _ _ g.0.0 d, ← r.ensures.1) (c.before.before.before.before.before.before.before.before.word.ensures and_then c.before.before.numbers.ensures)
 
 same-length-2 : tie.Need-same-length-2
@@ -74,7 +74,7 @@ returns-2 : tie.Need-returns-2
 returns-2 c =
     let g = c.before.before.before.before.before.why.given in
     let r = c.before.before.before.before.before.before.before.before.read in
-    rw (read-refused _ _ _ _ (sym r.ensures.0 ∙ ap readTold g.1)) c.before.before.refused-at.ensures
+    rw (read-refused _ _ _ _ (sym r.ensures.0 ∙ ap read_told g.1)) c.before.before.refused-at.ensures
 
 same-length-3 : tie.Need-same-length-3
 same-length-3 c = search rules
@@ -83,7 +83,7 @@ returns-3 : tie.Need-returns-3
 returns-3 c =
     let g = c.before.before.before.before.before.why2.given in
     let r = c.before.before.before.before.before.before.before.before.read in
-    absurd (enough-room _ _ (search rules) _ (sym r.ensures.0 ∙ ap readTold g.1))
+    absurd (enough-room _ _ (search rules) _ (sym r.ensures.0 ∙ ap read_told g.1))
 
 pub read-bytes-spec : {M : Type 1} → statement M
 read-bytes-spec =

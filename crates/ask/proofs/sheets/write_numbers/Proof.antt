@@ -1,5 +1,5 @@
 use mathlib.Core.Path.{sym, ap, ◌∙◌}
-use Rattle.sheet.specs.Answer.{writeTold}
+use Rattle.sheet.specs.Answer.{write_told}
 use Rattle.say.proofs.Saying.{◌and-then◌}
 use Rattle.ask.proofs.Sheeting.{write-room, write-said, write-refused-at, write-refused}
 use borrow.Author.Rules.{rules}
@@ -31,7 +31,7 @@ part-bytes-end : tie.Need-slice-bounds-bytes-end
 part-bytes-end c =
     let g = c.before.before.before.before.before.before.before.before.n.given in
     let r = c.before.before.before.before.before.before.before.before.before.before.before.write in
-    let h = write-room _ _ g.0.0 (sym r.ensures.0 ∙ ap writeTold g.1) in
+    let h = write-room _ _ g.0.0 (sym r.ensures.0 ∙ ap write_told g.1) in
     search (h, rules)
 
 bytes-requires : tie.Need-bytes-requires
@@ -56,7 +56,7 @@ returns : tie.Need-returns
 returns c =
     let g = c.before.before.before.before.before.before.before.before.before.before.before.before.n.given in
     let r = c.before.before.before.before.before.before.before.before.before.before.before.before.before.before.before.write in
-    let d = sym r.ensures.0 ∙ ap writeTold g.1 in
+    let d = sym r.ensures.0 ∙ ap write_told g.1 in
     rw (write-said _ _ (search rules) g.0.0 d, ← r.ensures.1) (c.before.before.before.before.before.before.before.before.word.ensures and_then c.before.before.bytes4.ensures)
 
 same-length-2 : tie.Need-same-length-2
@@ -66,7 +66,7 @@ returns-2 : tie.Need-returns-2
 returns-2 c =
     let g = c.before.before.before.before.before.why.given in
     let r = c.before.before.before.before.before.before.before.before.write in
-    rw (write-refused-at _ _ (search rules) _ _ (sym r.ensures.0 ∙ ap writeTold g.1)) c.before.before.refused-at.ensures
+    rw (write-refused-at _ _ (search rules) _ _ (sym r.ensures.0 ∙ ap write_told g.1)) c.before.before.refused-at.ensures
 
 same-length-3 : tie.Need-same-length-3
 same-length-3 c = search rules
@@ -75,7 +75,7 @@ returns-3 : tie.Need-returns-3
 returns-3 c =
     let g = c.before.before.before.before.before.why2.given in
     let r = c.before.before.before.before.before.before.before.before.write in
-    rw (write-refused _ _ (search rules) _ (sym r.ensures.0 ∙ ap writeTold g.1)) c.before.before.refused.ensures
+    rw (write-refused _ _ (search rules) _ (sym r.ensures.0 ∙ ap write_told g.1)) c.before.before.refused.ensures
 
 pub write-numbers-spec : {M : Type 1} → statement M
 write-numbers-spec =

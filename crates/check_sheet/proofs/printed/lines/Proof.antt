@@ -6,21 +6,21 @@ use borrow.Author.Rules.{rules}
 use Rattle.say.specs.Said.{Says}
 use Rattle.say.specs.Texts.{numbered}
 use Rattle.say.proofs.Saying.{nothing, ◌and-then◌}
-use Rattle.desk.specs.Five.{shownFirst}
+use Rattle.desk.specs.Five.{shown_first}
 use Rattle.desk.proofs.Fives.{looked-in}
-use Rattle.check_sheet.specs.Text.{stepLine}
+use Rattle.check_sheet.specs.Text.{step_line}
 use Rattle.check_sheet.proofs.Printing.{one_more}
 use Rattle.check_sheet.proofs.printed.lines.Statement.{statement}
 use Rattle.check_sheet.proofs.printed.lines.Tie as tie
 
 abbrev invariant-loop : tie.invariant-loop
-invariant-loop out₀ made room n e₀ k₀ out e k = (k ≤ n) × (length out ≡ length out₀) × Says (numbered stepLine 0 (shownFirst room k)) out₀ made out e
+invariant-loop out₀ made room n e₀ k₀ out e k = (k ≤ n) × (length out ≡ length out₀) × Says (numbered step_line 0 (shown_first room k)) out₀ made out e
 
 abbrev decreases-loop : tie.decreases-loop
 decreases-loop out₀ made room n e₀ k₀ out e k = n - k
 
 loop-holds : tie.Need-loop-init invariant-loop decreases-loop
-unfolding numbered shownFirst
+unfolding numbered shown_first
 loop-holds c = (search rules, search rules, nothing _ _)
 
 shown-at-requires : tie.Need-shown-at-requires invariant-loop decreases-loop

@@ -1,7 +1,7 @@
 use borrow.Author.Rules.{rules}
 use Rattle.congruence.proofs.Calls.{calls}
 use Rattle.congruence.proofs.Values.{values}
-use Rattle.congruence.specs.Ported.{metClasses}
+use Rattle.congruence.specs.Ported.{met_classes}
 use Rattle.congruence.proofs.ported.met_classes.Statement.{statement}
 use Rattle.congruence.proofs.ported.met_classes.Tie as tie
 
@@ -21,7 +21,7 @@ met-unless-requires : tie.Need-met-unless-requires
 met-unless-requires c κs = search rules
 
 returns : tie.Need-returns
-unfolding metClasses
+unfolding met_classes
 returns c = search (calls, values) depth 9 fits 5000
 
 pub met-classes-spec : {M : Type 1} → statement M

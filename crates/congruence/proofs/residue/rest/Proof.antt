@@ -5,7 +5,7 @@ use mir.Syntax.{w64}
 use mir.Val.{SFits}
 use borrow.Author.Rules.{rules}
 use Rattle.whole.proofs.Fits.{fits}
-use Rattle.whole.specs.Divides.{floorRem}
+use Rattle.whole.specs.Divides.{floor_rem}
 use Rattle.congruence.proofs.Classes.{left_by}
 use Rattle.congruence.proofs.Values.{values}
 use Rattle.congruence.proofs.residue.rest.Statement.{statement}
@@ -28,7 +28,7 @@ returns c =
     let g : SFits w64 c.before.floored-remainder.result = search values in
     let p = simp (to_z-of_z a.ranges.c, to_z-of_z f) at c.before.floored-remainder.ensures in
     let q = simp (to_z-of_z g) at c.magnitude.ensures in
-    left_by a.args.c a.args.p c.magnitude.result a.requires.0 (q ∙ ap nat_abs (p ∙ ap (floorRem a.args.c) s.signed.ensures))
+    left_by a.args.c a.args.p c.magnitude.result a.requires.0 (q ∙ ap nat_abs (p ∙ ap (floor_rem a.args.c) s.signed.ensures))
 
 pub rest-spec : {M : Type 1} → statement M
 rest-spec =

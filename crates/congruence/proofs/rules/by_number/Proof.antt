@@ -2,7 +2,7 @@ use borrow.Author.Rules.{rules}
 use Rattle.whole.proofs.Fits.{fits}
 use Rattle.congruence.proofs.Calls.{calls}
 use Rattle.congruence.proofs.Values.{divides-call, values}
-use Rattle.congruence.specs.Mended.{byNumber}
+use Rattle.congruence.specs.Mended.{by_number}
 use Rattle.congruence.proofs.rules.by_number.Statement.{statement}
 use Rattle.congruence.proofs.rules.by_number.Tie as tie
 
@@ -22,11 +22,11 @@ result-of-requires : tie.Need-result-of-requires
 result-of-requires c κs = search rules
 
 returns : tie.Need-returns
-unfolding byNumber
+unfolding by_number
 returns c = search (divides-call, calls, values) depth 9 fits 5000
 
 returns-2 : tie.Need-returns-2
-unfolding byNumber
+unfolding by_number
 returns-2 c = search (divides-call, calls, values) depth 9 fits 5000
 
 pub by-number-spec : {M : Type 1} → statement M

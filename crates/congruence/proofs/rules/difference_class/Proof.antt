@@ -9,7 +9,7 @@ use Rattle.whole.proofs.Fits.{fits}
 use Rattle.congruence.proofs.Calls.{calls}
 use Rattle.congruence.proofs.Cases.{above_zero, class-none, class-some}
 use Rattle.congruence.proofs.Values.{values, built}
-use Rattle.congruence.specs.Mended.{exactOf}
+use Rattle.congruence.specs.Mended.{exact_of}
 use Rattle.congruence.specs.Mended as mended
 use Rattle.congruence.proofs.rules.difference_class.Statement.{statement}
 use Rattle.congruence.proofs.rules.difference_class.Tie as tie
@@ -21,7 +21,7 @@ only-of-requires : tie.Need-only-of-requires
 only-of-requires c κs = search rules
 
 returns : tie.Need-returns
-unfolding mended.exactOf
+unfolding mended.exact_of
 returns c = search (eq-eqb, ne_eqb, calls, values) depth 9
 
 natural-requires : tie.Need-natural-requires

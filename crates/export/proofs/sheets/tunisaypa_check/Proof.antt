@@ -1,6 +1,6 @@
 use mathlib.Core.Path.{refl, sym, ap, ◌∙◌}
 use Rattle.refusal.specs.Number.{number_of}
-use Rattle.desk.specs.Answer.{checkTold, passedWith, atStep, at_byte, refusedBy}
+use Rattle.desk.specs.Answer.{check_told, passed_with, at_step, at_byte, refused_by}
 use Rattle.export.proofs.Seen.{checked-told}
 use borrow.Author.Rules.{rules}
 use Rattle.export.proofs.sheets.tunisaypa_check.Statement.{statement}
@@ -37,7 +37,7 @@ returns : tie.Need-returns
 returns c =
     let g = c.before.n.given in
     let d = c.before.before.before.before.check.ensures in
-    checked-told _ (passedWith g.0.0) (sym (ap checkTold g.1) ∙ d.0) d.1 refl refl
+    checked-told _ (passed_with g.0.0) (sym (ap check_told g.1) ∙ d.0) d.1 refl refl
 
 same-length-2 : tie.Need-same-length-2
 same-length-2 c = search rules
@@ -46,7 +46,7 @@ returns-2 : tie.Need-returns-2
 returns-2 c =
     let g = c.before.before.r.given in
     let d = c.before.before.before.before.before.check.ensures in
-    checked-told _ (atStep g.0.1.0 (number_of g.0.0)) (sym (ap checkTold g.1) ∙ d.0) d.1 c.number.ensures refl
+    checked-told _ (at_step g.0.1.0 (number_of g.0.0)) (sym (ap check_told g.1) ∙ d.0) d.1 c.number.ensures refl
 
 same-length-3 : tie.Need-same-length-3
 same-length-3 c = search rules
@@ -55,7 +55,7 @@ returns-3 : tie.Need-returns-3
 returns-3 c =
     let g = c.before.before.r2.given in
     let d = c.before.before.before.before.before.check.ensures in
-    checked-told _ (at_byte (number_of g.0.0) g.0.1.0) (sym (ap checkTold g.1) ∙ d.0) d.1 c.number2.ensures refl
+    checked-told _ (at_byte (number_of g.0.0) g.0.1.0) (sym (ap check_told g.1) ∙ d.0) d.1 c.number2.ensures refl
 
 same-length-4 : tie.Need-same-length-4
 same-length-4 c = search rules
@@ -64,7 +64,7 @@ returns-4 : tie.Need-returns-4
 returns-4 c =
     let g = c.before.before.r3.given in
     let d = c.before.before.before.before.before.check.ensures in
-    checked-told _ (refusedBy (number_of g.0.0)) (sym (ap checkTold g.1) ∙ d.0) d.1 c.number3.ensures refl
+    checked-told _ (refused_by (number_of g.0.0)) (sym (ap check_told g.1) ∙ d.0) d.1 c.number3.ensures refl
 
 pub tunisaypa-check-spec : {M : Type 1} → statement M
 tunisaypa-check-spec =

@@ -1,6 +1,6 @@
 use mathlib.Core.Path.{refl, sym, ap, ◌∙◌}
 use Rattle.refusal.specs.Number.{number_of}
-use Rattle.panel.specs.Answer.{runTold, endedWith, stopped, refusedAt, refusedBy}
+use Rattle.panel.specs.Answer.{run_told, ended_with, stopped, refused_at, refused_by}
 use Rattle.export.proofs.Seen.{ran-told}
 use borrow.Author.Rules.{rules}
 use Rattle.export.proofs.sheets.tunisaypa_run.Statement.{statement}
@@ -37,7 +37,7 @@ returns : tie.Need-returns
 returns c =
     let g = c.before.count.given in
     let d = c.before.before.before.before.run.ensures in
-    ran-told _ (endedWith g.0.0) (sym (ap runTold g.1) ∙ d.0) d.1 refl refl
+    ran-told _ (ended_with g.0.0) (sym (ap run_told g.1) ∙ d.0) d.1 refl refl
 
 same-length-2 : tie.Need-same-length-2
 same-length-2 c = search rules
@@ -46,7 +46,7 @@ returns-2 : tie.Need-returns-2
 returns-2 c =
     let g = c.before.before.r.given in
     let d = c.before.before.before.before.before.run.ensures in
-    ran-told _ (stopped g.0.1.0 (number_of g.0.0)) (sym (ap runTold g.1) ∙ d.0) d.1 c.number.ensures refl
+    ran-told _ (stopped g.0.1.0 (number_of g.0.0)) (sym (ap run_told g.1) ∙ d.0) d.1 c.number.ensures refl
 
 same-length-3 : tie.Need-same-length-3
 same-length-3 c = search rules
@@ -55,7 +55,7 @@ returns-3 : tie.Need-returns-3
 returns-3 c =
     let g = c.before.before.r2.given in
     let d = c.before.before.before.before.before.run.ensures in
-    ran-told _ (refusedAt (number_of g.0.0) g.0.1.0) (sym (ap runTold g.1) ∙ d.0) d.1 c.number2.ensures refl
+    ran-told _ (refused_at (number_of g.0.0) g.0.1.0) (sym (ap run_told g.1) ∙ d.0) d.1 c.number2.ensures refl
 
 same-length-4 : tie.Need-same-length-4
 same-length-4 c = search rules
@@ -64,7 +64,7 @@ returns-4 : tie.Need-returns-4
 returns-4 c =
     let g = c.before.before.r3.given in
     let d = c.before.before.before.before.before.run.ensures in
-    ran-told _ (refusedBy (number_of g.0.0)) (sym (ap runTold g.1) ∙ d.0) d.1 c.number3.ensures refl
+    ran-told _ (refused_by (number_of g.0.0)) (sym (ap run_told g.1) ∙ d.0) d.1 c.number3.ensures refl
 
 pub tunisaypa-run-spec : {M : Type 1} → statement M
 tunisaypa-run-spec =

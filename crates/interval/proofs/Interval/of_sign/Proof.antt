@@ -1,5 +1,5 @@
 use borrow.Author.Rules.{rules}
-use Rattle.interval.specs.Ported.{ofSign}
+use Rattle.interval.specs.Ported.{of_sign}
 use Rattle.interval.proofs.Interval.of_sign.Statement.{statement}
 use Rattle.interval.proofs.Interval.of_sign.Tie as tie
 
@@ -28,35 +28,35 @@ enum-told-8 : tie.Need-enum-told-8
 enum-told-8 c = search rules
 
 returns : tie.Need-returns
-unfolding ofSign
+unfolding of_sign
 returns c = cc
 
 returns-2 : tie.Need-returns-2
-unfolding ofSign
+unfolding of_sign
 returns-2 c = cc
 
 returns-3 : tie.Need-returns-3
-unfolding ofSign
+unfolding of_sign
 returns-3 c = cc
 
 returns-4 : tie.Need-returns-4
-unfolding ofSign
+unfolding of_sign
 returns-4 c = cc
 
 returns-5 : tie.Need-returns-5
-unfolding ofSign
+unfolding of_sign
 returns-5 c = cc
 
 returns-6 : tie.Need-returns-6
-unfolding ofSign
+unfolding of_sign
 returns-6 c = cc
 
 returns-7 : tie.Need-returns-7
-unfolding ofSign
+unfolding of_sign
 returns-7 c = cc
 
 returns-8 : tie.Need-returns-8
-unfolding ofSign
+unfolding of_sign
 returns-8 c = cc
 
 pub of-sign-spec : {M : Type 1} → statement M

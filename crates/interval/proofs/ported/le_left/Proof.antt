@@ -1,6 +1,6 @@
 use borrow.Author.Rules.{rules}
 use Rattle.whole.proofs.Flags.{flags}
-use Rattle.interval.specs.Ported.{leLeft}
+use Rattle.interval.specs.Ported.{le_left}
 use Rattle.interval.proofs.PortedCalls.{ends}
 use Rattle.interval.proofs.ported.le_left.Statement.{statement}
 use Rattle.interval.proofs.ported.le_left.Tie as tie
@@ -12,7 +12,7 @@ normalize-requires : tie.Need-normalize-requires
 normalize-requires c κs = search rules
 
 returns : tie.Need-returns
-unfolding leLeft
+unfolding le_left
 returns c = search (ends, flags) depth 8 fits 5000
 
 pub le-left-spec : {M : Type 1} → statement M

@@ -1,6 +1,6 @@
 use borrow.Author.Rules.{rules}
 use Rattle.whole.proofs.Flags.{flags}
-use Rattle.interval.specs.Ported.{leRight}
+use Rattle.interval.specs.Ported.{le_right}
 use Rattle.interval.proofs.PortedCalls.{ends}
 use Rattle.interval.proofs.ported.le_right.Statement.{statement}
 use Rattle.interval.proofs.ported.le_right.Tie as tie
@@ -12,7 +12,7 @@ normalize-requires : tie.Need-normalize-requires
 normalize-requires c κs = search rules
 
 returns : tie.Need-returns
-unfolding leRight
+unfolding le_right
 returns c = search (ends, flags) depth 8 fits 5000
 
 pub le-right-spec : {M : Type 1} → statement M

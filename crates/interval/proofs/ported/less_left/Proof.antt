@@ -1,6 +1,6 @@
 use borrow.Author.Rules.{rules}
 use Rattle.whole.proofs.Flags.{flags}
-use Rattle.interval.specs.Ported.{lessLeft}
+use Rattle.interval.specs.Ported.{less_left}
 use Rattle.interval.proofs.PortedCalls.{ends}
 use Rattle.interval.proofs.ported.less_left.Statement.{statement}
 use Rattle.interval.proofs.ported.less_left.Tie as tie
@@ -15,7 +15,7 @@ normalize-requires : tie.Need-normalize-requires
 normalize-requires c κs = search rules
 
 returns : tie.Need-returns
-unfolding lessLeft
+unfolding less_left
 returns c = search (ends, flags) depth 8 fits 5000
 
 pub less-left-spec : {M : Type 1} → statement M

@@ -1,6 +1,6 @@
 use borrow.Author.Rules.{rules}
 use Rattle.whole.proofs.Flags.{flags}
-use Rattle.interval.specs.Ported.{lessRight}
+use Rattle.interval.specs.Ported.{less_right}
 use Rattle.interval.proofs.PortedCalls.{ends}
 use Rattle.interval.proofs.ported.less_right.Statement.{statement}
 use Rattle.interval.proofs.ported.less_right.Tie as tie
@@ -15,7 +15,7 @@ normalize-requires : tie.Need-normalize-requires
 normalize-requires c κs = search rules
 
 returns : tie.Need-returns
-unfolding lessRight
+unfolding less_right
 returns c = search (ends, flags) depth 8 fits 5000
 
 pub less-right-spec : {M : Type 1} → statement M

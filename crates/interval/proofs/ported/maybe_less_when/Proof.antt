@@ -1,6 +1,6 @@
 use borrow.Author.Rules.{rules}
 use Rattle.whole.proofs.Flags.{flags}
-use Rattle.interval.specs.Ported.{maybeLessWhen}
+use Rattle.interval.specs.Ported.{maybe_less_when}
 use Rattle.interval.proofs.PortedCalls.{pair_made}
 use Rattle.interval.proofs.Calls.{asked}
 use Rattle.interval.proofs.ported.maybe_less_when.Statement.{statement}
@@ -10,15 +10,15 @@ apart-requires : tie.Need-apart-requires
 apart-requires c κs = search rules
 
 returns : tie.Need-returns
-unfolding maybeLessWhen
+unfolding maybe_less_when
 returns c = search (asked, flags) depth 8 fits 5000
 
 returns-2 : tie.Need-returns-2
-unfolding maybeLessWhen
+unfolding maybe_less_when
 returns-2 c = search (asked, flags) depth 8 fits 5000
 
 returns-3 : tie.Need-returns-3
-unfolding maybeLessWhen
+unfolding maybe_less_when
 returns-3 c = search (asked, flags) depth 8 fits 5000
 
 less-left-requires : tie.Need-less-left-requires
@@ -28,7 +28,7 @@ less-right-requires : tie.Need-less-right-requires
 less-right-requires c κs = search (asked, flags) depth 8 fits 5000
 
 returns-4 : tie.Need-returns-4
-unfolding maybeLessWhen
+unfolding maybe_less_when
 returns-4 c = search (pair_made, asked, flags) depth 8 fits 5000
 
 pub maybe-less-when-spec : {M : Type 1} → statement M

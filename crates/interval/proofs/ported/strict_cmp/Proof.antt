@@ -1,6 +1,6 @@
 use borrow.Author.Rules.{rules}
 use Rattle.whole.proofs.Flags.{flags}
-use Rattle.interval.specs.Ported.{strictCmp}
+use Rattle.interval.specs.Ported.{strict_cmp}
 use Rattle.interval.proofs.PortedCalls.{same-called}
 use Rattle.interval.proofs.Calls.{asked}
 use Rattle.interval.proofs.ported.strict_cmp.Statement.{statement}
@@ -10,15 +10,15 @@ one-bottom-requires : tie.Need-one-bottom-requires
 one-bottom-requires c κs = search rules
 
 returns : tie.Need-returns
-unfolding strictCmp
+unfolding strict_cmp
 returns c = search (asked, flags) depth 8 fits 5000
 
 returns-2 : tie.Need-returns-2
-unfolding strictCmp
+unfolding strict_cmp
 returns-2 c = search (asked, flags) depth 8 fits 5000
 
 returns-3 : tie.Need-returns-3
-unfolding strictCmp
+unfolding strict_cmp
 returns-3 c = search (asked, flags) depth 8 fits 5000
 
 singleton-requires : tie.Need-singleton-requires
@@ -31,7 +31,7 @@ same-one-requires : tie.Need-same-one-requires
 same-one-requires c κs = search rules
 
 returns-4 : tie.Need-returns-4
-unfolding strictCmp
+unfolding strict_cmp
 returns-4 c = search (same-called, asked, flags) depth 8 fits 5000
 
 pub strict-cmp-spec : {M : Type 1} → statement M

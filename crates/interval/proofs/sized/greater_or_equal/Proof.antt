@@ -1,5 +1,5 @@
 use borrow.Author.Rules.{rules}
-use Rattle.interval.specs.Mended.{greaterOrEqual}
+use Rattle.interval.specs.Mended.{greater_or_equal}
 use Rattle.interval.proofs.sized.greater_or_equal.Statement.{statement}
 use Rattle.interval.proofs.sized.greater_or_equal.Tie as tie
 
@@ -7,7 +7,7 @@ less-or-equal-requires : tie.Need-less-or-equal-requires
 less-or-equal-requires c κs = search rules
 
 returns : tie.Need-returns
-unfolding greaterOrEqual
+unfolding greater_or_equal
 returns c = search rules
 
 pub greater-or-equal-spec : {M : Type 1} → statement M

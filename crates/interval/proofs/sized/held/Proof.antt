@@ -1,7 +1,7 @@
 use mir.Syntax.{w64}
 use mir.Val.{SFits}
 use borrow.Author.Rules.{rules}
-use Rattle.interval.specs.Ends.{heldRange}
+use Rattle.interval.specs.Ends.{held_range}
 use Rattle.interval.proofs.Full.{held-64}
 use Rattle.interval.proofs.sized.held.Statement.{statement}
 use Rattle.interval.proofs.sized.held.Tie as tie
@@ -26,11 +26,11 @@ returns c =
     rw (g.1, c.enum_told.given.1) (held-64 g.0.0.min g.0.0.max f h)
 
 returns-2 : tie.Need-returns-2
-unfolding heldRange
+unfolding held_range
 returns-2 c = rw c.before.before.before.r.given.1 c.range-in.ensures
 
 returns-3 : tie.Need-returns-3
-unfolding heldRange
+unfolding held_range
 returns-3 c = rw c.before.r2.given.1
 
 pub held_spec : {M : Type 1} → statement M

@@ -1,7 +1,7 @@
 use borrow.Author.Rules.{rules}
 use Rattle.whole.proofs.Calls.{min-called}
 use Rattle.whole.proofs.Flags.{flags}
-use Rattle.interval.specs.Ends.{leastOf}
+use Rattle.interval.specs.Ends.{least_of}
 use Rattle.interval.proofs.sized.least_of.Statement.{statement}
 use Rattle.interval.proofs.sized.least_of.Tie as tie
 
@@ -21,15 +21,15 @@ enum-told-2 : tie.Need-enum-told-2
 enum-told-2 c = search rules
 
 returns : tie.Need-returns
-unfolding leastOf
+unfolding least_of
 returns c = rw (c.before.before.before.before.before.x.given.1, c.before.before.y.given.1) (search (min-called, flags))
 
 returns-2 : tie.Need-returns-2
-unfolding leastOf
+unfolding least_of
 returns-2 c = cc
 
 returns-3 : tie.Need-returns-3
-unfolding leastOf
+unfolding least_of
 returns-3 c = cc
 
 pub least-of-spec : {M : Type 1} → statement M

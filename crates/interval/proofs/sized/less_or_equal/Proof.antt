@@ -1,6 +1,6 @@
 use borrow.Author.Rules.{rules}
 use Rattle.whole.proofs.Flags.{bools}
-use Rattle.interval.specs.Mended.{lessOrEqual}
+use Rattle.interval.specs.Mended.{less_or_equal}
 use Rattle.interval.proofs.Calls.{lenient-made}
 use Rattle.interval.proofs.sized.less_or_equal.Statement.{statement}
 use Rattle.interval.proofs.sized.less_or_equal.Tie as tie
@@ -12,7 +12,7 @@ lenient-requires : tie.Need-lenient-requires
 lenient-requires c κs = search rules
 
 returns : tie.Need-returns
-unfolding lessOrEqual
+unfolding less_or_equal
 returns c = search (lenient-made, bools) depth 8 fits 5000
 
 pub less-or-equal-spec : {M : Type 1} → statement M

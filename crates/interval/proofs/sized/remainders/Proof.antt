@@ -1,6 +1,6 @@
 use borrow.Author.Rules.{rules}
 use Rattle.whole.proofs.Flags.{flags}
-use Rattle.interval.specs.Mended.{remWithin}
+use Rattle.interval.specs.Mended.{rem_within}
 use Rattle.interval.proofs.Calls.{asked, made}
 use Rattle.interval.proofs.sized.remainders.Statement.{statement}
 use Rattle.interval.proofs.sized.remainders.Tie as tie
@@ -9,19 +9,19 @@ is-only-requires : tie.Need-is-only-requires
 is-only-requires c κs = search rules
 
 returns : tie.Need-returns
-unfolding remWithin
+unfolding rem_within
 returns c = search (asked, flags) depth 8 fits 5000
 
 returns-2 : tie.Need-returns-2
-unfolding remWithin
+unfolding rem_within
 returns-2 c = search (made, asked, flags) depth 8 fits 5000
 
 returns-3 : tie.Need-returns-3
-unfolding remWithin
+unfolding rem_within
 returns-3 c = search (made, asked, flags) depth 8 fits 5000
 
 returns-4 : tie.Need-returns-4
-unfolding remWithin
+unfolding rem_within
 returns-4 c = search (made, asked, flags) depth 8 fits 5000
 
 pub remainders-spec : {M : Type 1} → statement M

@@ -2,9 +2,9 @@
 use mathlib.Core.Path.{refl, sym}
 use borrow.Author.Rules.{rules}
 use lib.ListN.{get_or-eq_default}
-use Rattle.text.specs.Word.{coded, code_of, firstCode, secondCode}
+use Rattle.text.specs.Word.{coded, code_of, first_code, second_code}
 use Rattle.question.specs.declared.names.Name.TheVariants.{Unknown}
-use Rattle.question.specs.Names.{firsts, firstsOf}
+use Rattle.question.specs.Names.{firsts, firsts_of}
 use Rattle.question.proofs.names.first_of.Statement.{statement}
 use Rattle.question.proofs.names.first_of.Tie as tie
 
@@ -15,11 +15,11 @@ array-read-result : tie.Need-array-read-result
 array-read-result c = search rules
 
 returns : tie.Need-returns
-unfolding firsts firstsOf firstCode secondCode code_of coded
+unfolding firsts firsts_of first_code second_code code_of coded
 returns c = refl
 
 returns-2 : tie.Need-returns-2
-unfolding firsts firstsOf firstCode secondCode code_of coded
+unfolding firsts firsts_of first_code second_code code_of coded
 returns-2 c = sym (get_or-eq_default firsts 0 c.if1.false)
 
 pub first-of-spec : {M : Type 1} → statement M

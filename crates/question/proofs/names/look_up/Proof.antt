@@ -3,19 +3,19 @@ use mathlib.Core.Path.{◌≡◌, refl, sym, ◌∙◌}
 use native.Mathlib.Omega.{arith}
 use borrow.Author.Rules.{rules}
 use lib.ListN.{drop, drop_of_length-le}
-use Rattle.question.specs.Names.{rows, nameIn, nameOf}
+use Rattle.question.specs.Names.{rows, name_in, name_of}
 use Rattle.question.proofs.Looking.{found, passed, none_left}
 use Rattle.question.proofs.names.look_up.Statement.{statement}
 use Rattle.question.proofs.names.look_up.Tie as tie
 
 abbrev invariant-loop : tie.invariant-loop
-invariant-loop first second i₀ i = nameIn (drop i rows) first second ≡ nameOf first second
+invariant-loop first second i₀ i = name_in (drop i rows) first second ≡ name_of first second
 
 abbrev decreases-loop : tie.decreases-loop
 decreases-loop first second i₀ i = 58 - i
 
 loop-holds : tie.Need-loop-init invariant-loop decreases-loop
-unfolding nameOf
+unfolding name_of
 loop-holds c = refl
 
 is-row-requires : tie.Need-is-row-requires invariant-loop decreases-loop

@@ -2,7 +2,7 @@
 use mathlib.Core.Path.{refl, sym}
 use borrow.Author.Rules.{rules}
 use lib.ListN.{get_or-eq_default}
-use Rattle.text.specs.Word.{coded, code_of, firstCode, secondCode}
+use Rattle.text.specs.Word.{coded, code_of, first_code, second_code}
 use Rattle.question.specs.declared.names.Name.TheVariants.{Unknown}
 use Rattle.question.specs.Names.{values, values_of}
 use Rattle.question.proofs.names.name_of.Statement.{statement}
@@ -15,11 +15,11 @@ array-copy-out-result : tie.Need-array-copy-out-result
 array-copy-out-result c = search rules
 
 returns : tie.Need-returns
-unfolding values values_of firstCode secondCode code_of coded
+unfolding values values_of first_code second_code code_of coded
 returns c = refl
 
 returns-2 : tie.Need-returns-2
-unfolding values values_of firstCode secondCode code_of coded
+unfolding values values_of first_code second_code code_of coded
 returns-2 c = sym (get_or-eq_default values Unknown c.if1.false)
 
 pub name-of-spec : {M : Type 1} → statement M

@@ -5,40 +5,40 @@ use native.Mathlib.Omega.{arith}
 use borrow.Author.Rules.{rules}
 use Rattle.whole.specs.Divides.{gcd, lcm}
 use Rattle.text.specs.Ascii.{ascii}
-use Rattle.text.specs.Word.{coded, code_of, firstCode, secondCode}
+use Rattle.text.specs.Word.{coded, code_of, first_code, second_code}
 use Rattle.question.specs.declared.answer.Answer.TheVariants.{NotUnderstood}
-use Rattle.question.specs.Taken.{nameAfter, nextAfter, twoAfter}
-use Rattle.question.specs.Number.{ofTwo, numberAnswer}
+use Rattle.question.specs.Taken.{name_after, next_after, two_after}
+use Rattle.question.specs.Number.{of_two, number_answer}
 use Rattle.question.proofs.Taking.{is_name, other-first, other-second}
 use Rattle.question.proofs.number.answer.Statement.{statement}
 use Rattle.question.proofs.number.answer.Tie as tie
 
 -- the numbers of the two names
-gcd-codes : (firstCode (ascii "gcd") ≡ 6775652) × (secondCode (ascii "gcd") ≡ 0)
-unfolding firstCode secondCode code_of coded
+gcd-codes : (first_code (ascii "gcd") ≡ 6775652) × (second_code (ascii "gcd") ≡ 0)
+unfolding first_code second_code code_of coded
 gcd-codes = (refl, refl)
 
-lcm-codes : (firstCode (ascii "lcm") ≡ 7103341) × (secondCode (ascii "lcm") ≡ 0)
-unfolding firstCode secondCode code_of coded
+lcm-codes : (first_code (ascii "lcm") ≡ 7103341) × (second_code (ascii "lcm") ≡ 0)
+unfolding first_code second_code code_of coded
 lcm-codes = (refl, refl)
 
-module _ (s : List ℕ) (at f g : ℕ) (ef : f ≡ firstCode (nameAfter s at)) (eg : g ≡ secondCode (nameAfter s at)) where
-  to-gcd : f ≡ 6775652 → g ≡ 0 → numberAnswer s at ≡ ofTwo gcd (twoAfter s (nextAfter s at))
-  unfolding numberAnswer
+module _ (s : List ℕ) (at f g : ℕ) (ef : f ≡ first_code (name_after s at)) (eg : g ≡ second_code (name_after s at)) where
+  to-gcd : f ≡ 6775652 → g ≡ 0 → number_answer s at ≡ of_two gcd (two_after s (next_after s at))
+  unfolding number_answer
   to-gcd e h = rw (← ef, ← eg, is_name "gcd" f g (e ∙ sym gcd-codes.0) (h ∙ sym gcd-codes.1))
 
-  to-lcm : f ≡ 7103341 → g ≡ 0 → numberAnswer s at ≡ ofTwo lcm (twoAfter s (nextAfter s at))
-  unfolding numberAnswer
+  to-lcm : f ≡ 7103341 → g ≡ 0 → number_answer s at ≡ of_two lcm (two_after s (next_after s at))
+  unfolding number_answer
   to-lcm e h =
-      let n : (f ≡ firstCode (ascii "gcd") → ⊥) = λ q. omega (arith, q, gcd-codes.0) in
+      let n : (f ≡ first_code (ascii "gcd") → ⊥) = λ q. omega (arith, q, gcd-codes.0) in
       rw (← ef, ← eg, other-first "gcd" f g n, is_name "lcm" f g (e ∙ sym lcm-codes.0) (h ∙ sym lcm-codes.1))
 
-  to_none : (f ≡ 6775652 → ⊥) → (f ≡ 7103341 → ⊥) → numberAnswer s at ≡ NotUnderstood
-  unfolding numberAnswer
+  to_none : (f ≡ 6775652 → ⊥) → (f ≡ 7103341 → ⊥) → number_answer s at ≡ NotUnderstood
+  unfolding number_answer
   to_none n m = rw (← ef, ← eg, other-first "gcd" f g (λ q. n (q ∙ gcd-codes.0)), other-first "lcm" f g (λ q. m (q ∙ lcm-codes.0)))
 
-  to-none-2 : (g ≡ 0 → ⊥) → numberAnswer s at ≡ NotUnderstood
-  unfolding numberAnswer
+  to-none-2 : (g ≡ 0 → ⊥) → number_answer s at ≡ NotUnderstood
+  unfolding number_answer
   to-none-2 n = rw (← ef, ← eg, other-second "gcd" f g (λ q. n (q ∙ gcd-codes.1)), other-second "lcm" f g (λ q. n (q ∙ lcm-codes.1)))
 
 name-requires : tie.Need-name-requires

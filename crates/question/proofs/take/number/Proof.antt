@@ -1,12 +1,12 @@
 use lib.ListN.{get_or-eq_default}
 use borrow.Author.Rules.{rules}
 use borrow.Author.Tests.{eq-eqb, ne_eqb}
-use Rattle.question.specs.Taken.{numberAfter}
+use Rattle.question.specs.Taken.{number_after}
 use Rattle.question.proofs.take.number.Statement.{statement}
 use Rattle.question.proofs.take.number.Tie as tie
 
 returns : tie.Need-returns
-unfolding numberAfter
+unfolding number_after
 returns c = rw (get_or-eq_default c.before.before.args.line.now 0 c.if1.true)
 
 shared-slice-read-if2 : tie.Need-shared-slice-read-if2
@@ -19,11 +19,11 @@ get-number-requires : tie.Need-get-number-requires
 get-number-requires c κs = search rules
 
 returns-2 : tie.Need-returns-2
-unfolding numberAfter
+unfolding number_after
 returns-2 c = rw (eq-eqb _ 32 c.before.if2.true) c.get-number.ensures
 
 returns-3 : tie.Need-returns-3
-unfolding numberAfter
+unfolding number_after
 returns-3 c = rw (ne_eqb _ 32 c.if2.false)
 
 pub number-spec : {M : Type 1} → statement M

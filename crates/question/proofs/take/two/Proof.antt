@@ -4,7 +4,7 @@ use mir.Val.{to_z, of_z}
 use borrow.Author.Rules.{rules}
 use borrow.Author.Tests.{eq-eqb, ne_eqb}
 use Rattle.text.specs.declared.decimal.Got.TheVariants.{Number, Nothing}
-use Rattle.question.specs.Taken.{numberAfter, twoAfter}
+use Rattle.question.specs.Taken.{number_after, two_after}
 use Rattle.question.proofs.take.two.Statement.{statement}
 use Rattle.question.proofs.take.two.Tie as tie
 
@@ -18,10 +18,10 @@ enum_told : tie.Need-enum-told
 enum_told c = search rules
 
 returns : tie.Need-returns
-unfolding twoAfter
+unfolding two_after
 returns c =
     let a = c.before.before.before.before.args in
-    let h : numberAfter a.line.now a.at ≡ Nothing = sym c.before.before.number.ensures ∙ c.enum_told.given.1 in
+    let h : number_after a.line.now a.at ≡ Nothing = sym c.before.before.number.ensures ∙ c.enum_told.given.1 in
     rw h
 
 number-requires-2 : tie.Need-number-requires-2
@@ -34,18 +34,18 @@ enum-told-2 : tie.Need-enum-told-2
 enum-told-2 c = search rules
 
 returns-2 : tie.Need-returns-2
-unfolding twoAfter
+unfolding two_after
 returns-2 c =
     let m = c.before.before.before.before in
     let o = m.before.before in
     let a = o.before.before.args in
     let g = m.a.given in
-    let h : numberAfter a.line.now a.at ≡ Number g.0.0 g.0.1.0 = sym o.number.ensures ∙ g.1 in
-    let k : numberAfter a.line.now g.0.1.0 ≡ Nothing = sym c.before.before.number2.ensures ∙ c.enum-told2.given.1 in
+    let h : number_after a.line.now a.at ≡ Number g.0.0 g.0.1.0 = sym o.number.ensures ∙ g.1 in
+    let k : number_after a.line.now g.0.1.0 ≡ Nothing = sym c.before.before.number2.ensures ∙ c.enum-told2.given.1 in
     rw (h, k)
 
 returns-3 : tie.Need-returns-3
-unfolding twoAfter
+unfolding two_after
 returns-3 c =
     let b = c.before.before in
     let m = b.before.before.before.before in
@@ -53,14 +53,14 @@ returns-3 c =
     let a = o.before.before.args in
     let g = m.a.given in
     let g' = b.b.given in
-    let h : numberAfter a.line.now a.at ≡ Number g.0.0 g.0.1.0 = sym o.number.ensures ∙ g.1 in
-    let k : numberAfter a.line.now g.0.1.0 ≡ Number g'.0.0 g'.0.1.0 = sym b.before.before.number2.ensures ∙ g'.1 in
+    let h : number_after a.line.now a.at ≡ Number g.0.0 g.0.1.0 = sym o.number.ensures ∙ g.1 in
+    let k : number_after a.line.now g.0.1.0 ≡ Number g'.0.0 g'.0.1.0 = sym b.before.before.number2.ensures ∙ g'.1 in
     let ex : to_z w64 (of_z w64 g.0.0) ≡ g.0.0 = search rules in
     let ey : to_z w64 (of_z w64 g'.0.0) ≡ g'.0.0 = search rules in
     rw (h, k, eq-eqb _ _ c.if1.true, ex, ey)
 
 returns-4 : tie.Need-returns-4
-unfolding twoAfter
+unfolding two_after
 returns-4 c =
     let b = c.before.before in
     let m = b.before.before.before.before in
@@ -68,8 +68,8 @@ returns-4 c =
     let a = o.before.before.args in
     let g = m.a.given in
     let g' = b.b.given in
-    let h : numberAfter a.line.now a.at ≡ Number g.0.0 g.0.1.0 = sym o.number.ensures ∙ g.1 in
-    let k : numberAfter a.line.now g.0.1.0 ≡ Number g'.0.0 g'.0.1.0 = sym b.before.before.number2.ensures ∙ g'.1 in
+    let h : number_after a.line.now a.at ≡ Number g.0.0 g.0.1.0 = sym o.number.ensures ∙ g.1 in
+    let k : number_after a.line.now g.0.1.0 ≡ Number g'.0.0 g'.0.1.0 = sym b.before.before.number2.ensures ∙ g'.1 in
     rw (h, k, ne_eqb _ _ c.if1.false)
 
 pub two-spec : {M : Type 1} → statement M

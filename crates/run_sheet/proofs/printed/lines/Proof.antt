@@ -10,13 +10,13 @@ use Rattle.say.specs.Said.{size, Says}
 use Rattle.say.specs.Texts.{numbered}
 use Rattle.say.proofs.Sizes.{size-append}
 use Rattle.say.proofs.Saying.{nothing, ◌and-then◌}
-use Rattle.run_sheet.specs.Text.{stepLine}
+use Rattle.run_sheet.specs.Text.{step_line}
 use Rattle.run_sheet.proofs.Printing.{one_more, all_lines}
 use Rattle.run_sheet.proofs.printed.lines.Statement.{statement}
 use Rattle.run_sheet.proofs.printed.lines.Tie as tie
 
 abbrev invariant-loop : tie.invariant-loop
-invariant-loop out₀ made numbers e₀ k₀ out e k = (k ≤ length numbers) × (length out ≡ length out₀) × Says (numbered stepLine 0 (take k numbers)) out₀ made out e × (length numbers ≤ 256 → size (numbered stepLine 0 (take k numbers)) ≤ 25 * k)
+invariant-loop out₀ made numbers e₀ k₀ out e k = (k ≤ length numbers) × (length out ≡ length out₀) × Says (numbered step_line 0 (take k numbers)) out₀ made out e × (length numbers ≤ 256 → size (numbered step_line 0 (take k numbers)) ≤ 25 * k)
 
 abbrev decreases-loop : tie.decreases-loop
 decreases-loop out₀ made numbers e₀ k₀ out e k = length numbers - k
@@ -47,7 +47,7 @@ loop-again c =
     let e : to_z w64 (of_z w64 (get_or l v.k (pos 0))) ≡ get_or l v.k (pos 0) = search rules in
     let o = one_more l v.k (search rules) in
     let n = rw e at c.before.before.line.ensures in
-    let z = size-append (numbered stepLine 0 (take v.k l)) (stepLine v.k (get_or l v.k (pos 0))) in
+    let z = size-append (numbered step_line 0 (take v.k l)) (step_line v.k (get_or l v.k (pos 0))) in
     (search rules, search rules, rw o (v.invariant.2 and_then n.0), λ h. rw o (omega (arith, z, n.1 (omega arith), v.invariant.3 h)))
 
 same_length : tie.Need-same-length invariant-loop decreases-loop

@@ -4,16 +4,16 @@ use native.Mathlib.Omega.{arith}
 use borrow.Author.Rules.{rules}
 use borrow.Author.Tests.{lt-ltb, le-ltb}
 use lib.ListN.{length}
-use Rattle.sheet.specs.Got.{got, verdictOf}
-use Rattle.sheet.specs.Step.{step, stepAt}
-use Rattle.sheet.specs.Sheet.{stepsFrom}
-use Rattle.sheet.specs.Found.{stepFound}
+use Rattle.sheet.specs.Got.{got, verdict_of}
+use Rattle.sheet.specs.Step.{step, step_at}
+use Rattle.sheet.specs.Sheet.{steps_from}
+use Rattle.sheet.specs.Found.{step_found}
 use Rattle.sheet.proofs.Parts.{steps-done, turn_step, turn-refused, verdict-put}
 use Rattle.sheet.proofs.reading.check_steps.Statement.{statement}
 use Rattle.sheet.proofs.reading.check_steps.Tie as tie
 
 abbrev invariant-loop : tie.invariant-loop
-invariant-loop s from n at₀ k₀ at k = (k ≤ n) × (verdictOf (stepsFrom n s 0 from) ≡ verdictOf (stepsFrom (n - k) s k at))
+invariant-loop s from n at₀ k₀ at k = (k ≤ n) × (verdict_of (steps_from n s 0 from) ≡ verdict_of (steps_from (n - k) s k at))
 
 abbrev decreases-loop : tie.decreases-loop
 decreases-loop s from n at₀ k₀ at k = n - k
@@ -41,7 +41,7 @@ loop-again c =
     let a = c.before.before.before.before.before.before.before.args in
     let g = c.before.next.given in
     let lt : x.k < a.n = c.before.before.before.before.loop-test.true in
-    let h : stepAt a.s.now x.at x.k ≡ got (step g.0.0 g.0.1.0 g.0.1.1.0 g.0.1.1.1.0) g.0.1.1.1.1.0 = sym c.before.before.before.Read-step.ensures ∙ ap stepFound g.1 in
+    let h : step_at a.s.now x.at x.k ≡ got (step g.0.0 g.0.1.0 g.0.1.1.0 g.0.1.1.1.0) g.0.1.1.1.1.0 = sym c.before.before.before.Read-step.ensures ∙ ap step_found g.1 in
     (omega arith, x.invariant.1 ∙ rw (turn_step a.n x.k a.s.now x.at _ _ lt h, verdict-put))
 
 enum-known-r : tie.Need-enum-known-r invariant-loop decreases-loop
@@ -52,7 +52,7 @@ returns c =
     let x = c.before.before.before.before.before.loop in
     let a = c.before.before.before.before.before.before.before.args in
     let lt : x.k < a.n = c.before.before.before.before.loop-test.true in
-    let h = sym c.before.before.before.Read-step.ensures ∙ ap stepFound c.before.r.given.1 in
+    let h = sym c.before.before.before.Read-step.ensures ∙ ap step_found c.before.r.given.1 in
     rw (x.invariant.1, turn-refused a.n x.k a.s.now x.at _ _ lt h)
 
 returns-2 : tie.Need-returns-2 invariant-loop decreases-loop

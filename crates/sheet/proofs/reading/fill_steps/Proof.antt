@@ -9,10 +9,10 @@ use lib.Seq.{sets}
 use mir.Syntax.{w64}
 use mir.Val.{of_z, to_z}
 use Rattle.refusal.specs.Number.{number_of}
-use Rattle.sheet.specs.Got.{Got, got, fine, wrong, verdictOf}
-use Rattle.sheet.specs.Step.{Step, step, stepAt}
-use Rattle.sheet.specs.Sheet.{stepsFrom, stepsIn, flat}
-use Rattle.sheet.specs.Found.{stepFound}
+use Rattle.sheet.specs.Got.{Got, got, fine, wrong, verdict_of}
+use Rattle.sheet.specs.Step.{Step, step, step_at}
+use Rattle.sheet.specs.Sheet.{steps_from, steps_in, flat}
+use Rattle.sheet.specs.Found.{step_found}
 use Rattle.sheet.proofs.Parts.{put, steps-done, turn_step, turn-refused, verdict-put, flat-put, flat-done, sets-four}
 use Rattle.sheet.proofs.reading.fill_steps.Statement.{statement}
 use Rattle.sheet.proofs.reading.fill_steps.Tie as tie
@@ -20,9 +20,9 @@ use Rattle.sheet.proofs.reading.fill_steps.Tie as tie
 abbrev invariant-loop : tie.invariant-loop
 invariant-loop s from n out₀ at₀ k₀ out at k =
     (k ≤ n)
-    × (verdictOf (stepsFrom (n - k) s k at) ≡ fine)
+    × (verdict_of (steps_from (n - k) s k at) ≡ fine)
     × (length out ≡ length out₀)
-    × (sets out₀ 0 (flat (stepsIn (stepsFrom n s 0 from))) ≡ sets out (k * 4) (flat (stepsIn (stepsFrom (n - k) s k at))))
+    × (sets out₀ 0 (flat (steps_in (steps_from n s 0 from))) ≡ sets out (k * 4) (flat (steps_in (steps_from (n - k) s k at))))
 
 abbrev decreases-loop : tie.decreases-loop
 decreases-loop s from n out₀ at₀ k₀ out at k = n - k
@@ -86,16 +86,16 @@ loop-again c =
     let a = c.before.before.before.before.before.before.before.args in
     let g = c.before.op.given in
     let lt : x.k < a.n = c.before.before.before.before.loop-test.true in
-    let h : stepAt a.s.now x.at x.k ≡ got (step g.0.0 g.0.1.0 g.0.1.1.0 g.0.1.1.1.0) g.0.1.1.1.1.0 = sym c.before.before.before.Read-step.ensures ∙ ap stepFound g.1 in
-    let rest : Got (List Step) = stepsFrom (a.n - (x.k + 1)) a.s.now (x.k + 1) g.0.1.1.1.1.0 in
-    let t : stepsFrom (a.n - x.k) a.s.now x.k x.at ≡ put (step g.0.0 g.0.1.0 g.0.1.1.0 g.0.1.1.1.0) rest = turn_step a.n x.k a.s.now x.at _ _ lt h in
-    let right : verdictOf rest ≡ fine = sym (ap verdictOf t ∙ verdict-put _ rest) ∙ x.invariant.1 in
-    let l : flat (stepsIn (stepsFrom (a.n - x.k) a.s.now x.k x.at)) ≡ g.0.0 ∷ g.0.1.0 ∷ g.0.1.1.0 ∷ g.0.1.1.1.0 ∷ flat (stepsIn rest) = ap (λ (y : Got (List Step)). flat (stepsIn y)) t ∙ flat-put _ rest right in
+    let h : step_at a.s.now x.at x.k ≡ got (step g.0.0 g.0.1.0 g.0.1.1.0 g.0.1.1.1.0) g.0.1.1.1.1.0 = sym c.before.before.before.Read-step.ensures ∙ ap step_found g.1 in
+    let rest : Got (List Step) = steps_from (a.n - (x.k + 1)) a.s.now (x.k + 1) g.0.1.1.1.1.0 in
+    let t : steps_from (a.n - x.k) a.s.now x.k x.at ≡ put (step g.0.0 g.0.1.0 g.0.1.1.0 g.0.1.1.1.0) rest = turn_step a.n x.k a.s.now x.at _ _ lt h in
+    let right : verdict_of rest ≡ fine = sym (ap verdict_of t ∙ verdict-put _ rest) ∙ x.invariant.1 in
+    let l : flat (steps_in (steps_from (a.n - x.k) a.s.now x.k x.at)) ≡ g.0.0 ∷ g.0.1.0 ∷ g.0.1.1.0 ∷ g.0.1.1.1.0 ∷ flat (steps_in rest) = ap (λ (y : Got (List Step)). flat (steps_in y)) t ∙ flat-put _ rest right in
     let e₀ : to_z w64 (of_z w64 g.0.0) ≡ g.0.0 = search rules in
     let e₁ : to_z w64 (of_z w64 g.0.1.0) ≡ g.0.1.0 = search rules in
     let e₂ : to_z w64 (of_z w64 g.0.1.1.0) ≡ g.0.1.1.0 = search rules in
     let e₃ : to_z w64 (of_z w64 g.0.1.1.1.0) ≡ g.0.1.1.1.0 = search rules in
-    (omega arith, right, simp length-set x.invariant.2, x.invariant.3 ∙ rw (e₀, e₁, e₂, e₃, l) (sets-four x.out x.k _ _ _ _ (flat (stepsIn rest))))
+    (omega arith, right, simp length-set x.invariant.2, x.invariant.3 ∙ rw (e₀, e₁, e₂, e₃, l) (sets-four x.out x.k _ _ _ _ (flat (steps_in rest))))
 
 enum_told : tie.Need-enum-told invariant-loop decreases-loop
 enum_told c = search rules
@@ -109,8 +109,8 @@ returns c =
     let a = c.before.before.before.before.before.before.args in
     let g = c.enum_told.given in
     let lt : x.k < a.n = c.before.before.before.loop-test.true in
-    let h = sym c.before.before.Read-step.ensures ∙ ap stepFound g.1 in
-    let w : verdictOf (stepsFrom (a.n - x.k) a.s.now x.k x.at) ≡ wrong (number_of g.0.0) g.0.1.0 = ap verdictOf (turn-refused a.n x.k a.s.now x.at _ _ lt h) in
+    let h = sym c.before.before.Read-step.ensures ∙ ap step_found g.1 in
+    let w : verdict_of (steps_from (a.n - x.k) a.s.now x.k x.at) ≡ wrong (number_of g.0.0) g.0.1.0 = ap verdict_of (turn-refused a.n x.k a.s.now x.at _ _ lt h) in
     let z : ◌≡◌ {A = ℕ} 0 1 = cc (w, x.invariant.1) in
     absurd (omega arith)
 
@@ -121,7 +121,7 @@ returns-2 : tie.Need-returns-2 invariant-loop decreases-loop
 returns-2 c =
     let x = c.before.loop in
     let a = c.before.before.before.args in
-    let l : flat (stepsIn (stepsFrom (a.n - x.k) a.s.now x.k x.at)) ≡ [] = ap (λ (y : Got (List Step)). flat (stepsIn y)) (steps-done a.n x.k a.s.now x.at c.loop-test.false) ∙ flat-done (ltb x.at (length a.s.now)) x.at in
+    let l : flat (steps_in (steps_from (a.n - x.k) a.s.now x.k x.at)) ≡ [] = ap (λ (y : Got (List Step)). flat (steps_in y)) (steps-done a.n x.k a.s.now x.at c.loop-test.false) ∙ flat-done (ltb x.at (length a.s.now)) x.at in
     sym (x.invariant.3 ∙ rw l)
 
 pub fill-steps-spec : {M : Type 1} → statement M

@@ -3,7 +3,7 @@
 use mathlib.Core.Path.{ap, ◌∙◌}
 use borrow.Author.Rules.{rules}
 use Rattle.sign.specs.declared.Sign.TheVariants.{NonNeg}
-use Rattle.sign.specs.Mended.{judged, greaterOrEqual}
+use Rattle.sign.specs.Mended.{judged, greater_or_equal}
 use Rattle.sign.proofs.mended.greater_or_equal.Statement.{statement}
 use Rattle.sign.proofs.mended.greater_or_equal.Tie as tie
 
@@ -14,7 +14,7 @@ judged-requires : tie.Need-judged-requires
 judged-requires c κs = search rules
 
 returns : tie.Need-returns
-unfolding greaterOrEqual
+unfolding greater_or_equal
 returns c = c.judged.ensures ∙ ap (judged NonNeg) c.before.sub.ensures
 
 pub greater-or-equal-spec : {M : Type 1} → statement M

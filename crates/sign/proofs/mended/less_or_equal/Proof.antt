@@ -3,7 +3,7 @@
 use mathlib.Core.Path.{ap, ◌∙◌}
 use borrow.Author.Rules.{rules}
 use Rattle.sign.specs.declared.Sign.TheVariants.{NonPos}
-use Rattle.sign.specs.Mended.{judged, lessOrEqual}
+use Rattle.sign.specs.Mended.{judged, less_or_equal}
 use Rattle.sign.proofs.mended.less_or_equal.Statement.{statement}
 use Rattle.sign.proofs.mended.less_or_equal.Tie as tie
 
@@ -14,7 +14,7 @@ judged-requires : tie.Need-judged-requires
 judged-requires c κs = search rules
 
 returns : tie.Need-returns
-unfolding lessOrEqual
+unfolding less_or_equal
 returns c = c.judged.ensures ∙ ap (judged NonPos) c.before.sub.ensures
 
 pub less-or-equal-spec : {M : Type 1} → statement M

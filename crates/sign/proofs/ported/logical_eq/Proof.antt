@@ -7,7 +7,7 @@ use Rattle.sign.specs.declared.Sign.TheVariants.{Zero, Positive, NonNeg}
 use Rattle.sign.specs.declared.Sign.{Sign}
 use Rattle.whole.specs.Choice.{pick}
 use Rattle.sign.specs.Sides.{◌inside◌}
-use Rattle.sign.specs.Ported.{surely, logicalEq}
+use Rattle.sign.specs.Ported.{surely, logical_eq}
 use Rattle.sign.proofs.ported.logical_eq.Statement.{statement}
 use Rattle.sign.proofs.ported.logical_eq.Tie as tie
 
@@ -37,20 +37,20 @@ at-most-requires-2 : tie.Need-at-most-requires-2
 at-most-requires-2 c κs = search rules
 
 returns : tie.Need-returns
-unfolding logicalEq
+unfolding logical_eq
 returns c =
     let d = c.before.before.args in
     surely-so (surely d.a d.b d.is-bool) (d.a inside d.b) (d.b inside d.a) (sym c.before.surely-equal.ensures ∙ c.if1.true)
 
 returns-2 : tie.Need-returns-2
-unfolding logicalEq
+unfolding logical_eq
 returns-2 c =
     let e = c.before.before in
     let d = e.before.before.args in
     left-inside (surely d.a d.b d.is-bool) (d.a inside d.b) (d.b inside d.a) (sym e.before.surely-equal.ensures ∙ e.if1.false) (sym c.before.at_most.ensures ∙ c.if2.true)
 
 returns-3 : tie.Need-returns-3
-unfolding logicalEq
+unfolding logical_eq
 returns-3 c =
     let f = c.before.before in
     let e = f.before.before in
@@ -59,7 +59,7 @@ returns-3 c =
     (sym c.before.at-most2.ensures ∙ c.if3.true)
 
 returns-4 : tie.Need-returns-4
-unfolding logicalEq
+unfolding logical_eq
 returns-4 c =
     let f = c.before.before in
     let e = f.before.before in

@@ -3,7 +3,7 @@
 use native.Mathlib.Omega.{arith}
 use borrow.Author.Rules.{rules}
 use Rattle.whole.specs.declared.Order.TheVariants.{Less}
-use Rattle.sign.specs.Ported.{strictCmp, sub, add, neg}
+use Rattle.sign.specs.Ported.{strict_cmp, sub, add, neg}
 use Rattle.sign.proofs.Cells.{orders, below, reads}
 use Rattle.sign.proofs.index_of.Reads as index-of-reads
 use Rattle.sign.proofs.ported.strict_cmp.Statement.{statement}
@@ -28,13 +28,13 @@ index-2-result c = omega (arith, c.index-of2.ensures, below c.before.before.args
 
 -- the sixth of the locals is the table
 returns : tie.Need-returns
-unfolding strictCmp sub add neg
+unfolding strict_cmp sub add neg
 returns c =
     let d = c.before in
     let locals =
     lts.m165 (index-of-reads.Asked, index-of-reads.Learnt) own-reads.Pre own-reads.Post d.before
     (lts.gave-After-index-of2 (index-of-reads.Asked, index-of-reads.Learnt) own-reads.Pre own-reads.Post d) in
-    reads orders locals.1.1.1.1.1.0 Less strictCmp tt d.before.index_of.result d.index-of2.result
+    reads orders locals.1.1.1.1.1.0 Less strict_cmp tt d.before.index_of.result d.index-of2.result
     d.before.before.args.a d.before.before.args.b d.before.index_of.ensures d.index-of2.ensures
 
 pub strict-cmp-spec : {M : Type 1} → statement M

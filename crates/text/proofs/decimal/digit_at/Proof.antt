@@ -1,6 +1,6 @@
 use mathlib.Core.Path.{sym}
 use borrow.Author.Tests.{lt-ltb, le-ltb}
-use Rattle.text.specs.Number.{digitAt}
+use Rattle.text.specs.Number.{digit_at}
 use Rattle.text.proofs.Reading.{past}
 use borrow.Author.Rules.{rules}
 use Rattle.text.proofs.decimal.digit_at.Statement.{statement}
@@ -13,18 +13,18 @@ shared-slice-read-b : tie.Need-shared-slice-read-b
 shared-slice-read-b c = search rules
 
 returns-2 : tie.Need-returns-2
-unfolding digitAt
+unfolding digit_at
 returns-2 c = rw (lt-ltb _ _ c.if2.true)
 
 returns-3 : tie.Need-returns-3
-unfolding digitAt
+unfolding digit_at
 returns-3 c = rw (le-ltb _ _ c.before.if2.false, lt-ltb _ _ c.if3.true)
 
 wide-requires : tie.Need-wide-requires
 wide-requires c κs = search rules
 
 returns-4 : tie.Need-returns-4
-unfolding digitAt
+unfolding digit_at
 returns-4 c = rw (le-ltb _ _ c.before.before.if2.false, le-ltb _ _ c.before.if3.false) c.wide.ensures
 
 pub digit-at-spec : {M : Type 1} → statement M

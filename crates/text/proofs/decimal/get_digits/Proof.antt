@@ -3,7 +3,7 @@ use mathlib.Core.Path.{◌≡◌, refl, sym, ◌∙◌}
 use native.Mathlib.Omega.{arith}
 use borrow.Author.Rules.{rules}
 use lib.ListN.{length, drop}
-use Rattle.text.specs.Number.{digitAt, total, many}
+use Rattle.text.specs.Number.{digit_at, total, many}
 use Rattle.text.proofs.Reading.{inside, total-more, many_more, total-stop, many-stop, total-above, none, large, value}
 use Rattle.text.proofs.decimal.get_digits.Statement.{statement}
 use Rattle.text.proofs.decimal.get_digits.Tie as tie
@@ -49,8 +49,8 @@ loop-again c =
     let d = c.before.before in
     let x = d.before.loop in
     let a = d.before.before.before.args in
-    let e : d.digit_at.result ≡ digitAt a.s.now x.i = d.digit_at.ensures in
-    let h : digitAt a.s.now x.i < 10 = omega (arith, e) in (
+    let e : d.digit_at.result ≡ digit_at a.s.now x.i = d.digit_at.ensures in
+    let h : digit_at a.s.now x.i < 10 = omega (arith, e) in (
       omega arith,
       omega arith,
       rw e (x.invariant.2 ∙ total-more a.s.now x.i x.v h),
@@ -62,8 +62,8 @@ returns c =
     let d = c.before.before in
     let x = d.before.loop in
     let a = d.before.before.before.args in
-    let e : d.digit_at.result ≡ digitAt a.s.now x.i = d.digit_at.ensures in
-    let h : 9 < digitAt a.s.now x.i = omega (arith, e) in
+    let e : d.digit_at.result ≡ digit_at a.s.now x.i = d.digit_at.ensures in
+    let h : 9 < digit_at a.s.now x.i = omega (arith, e) in
     sym (none a.s.now a.at (omega (arith, x.invariant.3, many-stop a.s.now x.i h, c.if2.true)))
 
 returns-2 : tie.Need-returns-2 invariant-loop decreases-loop
@@ -71,8 +71,8 @@ returns-2 c =
     let d = c.before.before.before in
     let x = d.before.loop in
     let a = d.before.before.before.args in
-    let e : d.digit_at.result ≡ digitAt a.s.now x.i = d.digit_at.ensures in
-    let h : 9 < digitAt a.s.now x.i = omega (arith, e) in
+    let e : d.digit_at.result ≡ digit_at a.s.now x.i = d.digit_at.ensures in
+    let h : 9 < digit_at a.s.now x.i = omega (arith, e) in
     sym (large a.s.now a.at (λ z. c.before.if2.false (omega (arith, x.invariant.3, many-stop a.s.now x.i h))) (omega (arith, x.invariant.2, total-stop a.s.now x.i x.v h, c.if3.true)))
 
 returns-3 : tie.Need-returns-3 invariant-loop decreases-loop
@@ -80,8 +80,8 @@ returns-3 c =
     let d = c.before.before.before in
     let x = d.before.loop in
     let a = d.before.before.before.args in
-    let e : d.digit_at.result ≡ digitAt a.s.now x.i = d.digit_at.ensures in
-    let h : 9 < digitAt a.s.now x.i = omega (arith, e) in
+    let e : d.digit_at.result ≡ digit_at a.s.now x.i = d.digit_at.ensures in
+    let h : 9 < digit_at a.s.now x.i = omega (arith, e) in
     let m = many-stop a.s.now x.i h in
     sym (value a.s.now a.at x.v x.i (λ z. c.before.if2.false (omega (arith, x.invariant.3, m))) (x.invariant.2 ∙ total-stop a.s.now x.i x.v h) (omega (arith, x.invariant.3, m)) c.if3.false)
 
@@ -90,11 +90,11 @@ returns-4 c =
     let d = c.before.before in
     let x = d.before.loop in
     let a = d.before.before.before.args in
-    let e : d.digit_at.result ≡ digitAt a.s.now x.i = d.digit_at.ensures in
-    let h : digitAt a.s.now x.i < 10 = omega (arith, e) in
+    let e : d.digit_at.result ≡ digit_at a.s.now x.i = d.digit_at.ensures in
+    let h : digit_at a.s.now x.i < 10 = omega (arith, e) in
     let m = many_more a.s.now x.i h in
     let t = total-more a.s.now x.i x.v h in
-    sym (large a.s.now a.at (λ z. omega (arith, x.invariant.0, x.invariant.3, m)) (omega (arith, x.invariant.2, t, total-above (drop (x.i + 1) a.s.now) (x.v * 10 + digitAt a.s.now x.i), c.if4.true)))
+    sym (large a.s.now a.at (λ z. omega (arith, x.invariant.0, x.invariant.3, m)) (omega (arith, x.invariant.2, t, total-above (drop (x.i + 1) a.s.now) (x.v * 10 + digit_at a.s.now x.i), c.if4.true)))
 
 pub get-digits-spec : {M : Type 1} → statement M
 get-digits-spec =

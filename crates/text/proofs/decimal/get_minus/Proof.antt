@@ -8,7 +8,7 @@ use mir.ValLaws.{to_z-of_z}
 use borrow.Author.Tests.{lt-ltb, le-ltb}
 use Rattle.text.specs.declared.decimal.Digits.TheVariants.{Value, Not}
 use Rattle.text.specs.declared.decimal.Got.TheVariants.{Number}
-use Rattle.text.specs.Number.{digitsAt, minusAt}
+use Rattle.text.specs.Number.{digits_at, minus_at}
 use borrow.Author.Rules.{rules}
 use Rattle.text.proofs.decimal.get_minus.Statement.{statement}
 use Rattle.text.proofs.decimal.get_minus.Tie as tie
@@ -27,11 +27,11 @@ enum-known-m : tie.Need-enum-known-m
 enum-known-m c = search rules
 
 returns : tie.Need-returns
-unfolding minusAt
+unfolding minus_at
 returns c = let m = c.before.before in
     let g = m.m.given in
     let a = m.before.before.before.before.args in
-    let h : digitsAt a.s.now a.at ≡ Value g.0.0 g.0.1.0 = sym m.before.before.get-digits.ensures ∙ g.1 in
+    let h : digits_at a.s.now a.at ≡ Value g.0.0 g.0.1.0 = sym m.before.before.get-digits.ensures ∙ g.1 in
     rw (h, lt-ltb (2 ^ 63) g.0.0 c.if1.true)
 
 minus-requires : tie.Need-minus-requires
@@ -41,17 +41,17 @@ enum_told : tie.Need-enum-told
 enum_told c = search rules
 
 returns-2 : tie.Need-returns-2
-unfolding minusAt
+unfolding minus_at
 returns-2 c = let m = c.before.before.before in
     let g = m.m.given in
     let a = m.before.before.before.before.args in
-    let h : digitsAt a.s.now a.at ≡ Value g.0.0 g.0.1.0 = sym m.before.before.get-digits.ensures ∙ g.1 in
+    let h : digits_at a.s.now a.at ≡ Value g.0.0 g.0.1.0 = sym m.before.before.get-digits.ensures ∙ g.1 in
     rw (h, le-ltb (2 ^ 63) g.0.0 c.before.if1.false) (ap (λ (z : ℤ). Number z g.0.1.0) (there_and_back c.minus.result g.0.0 c.minus.ensures c.before.if1.false))
 
 returns-3 : tie.Need-returns-3
-unfolding minusAt
+unfolding minus_at
 returns-3 c = let a = c.before.before.before.before.args in
-    let h : digitsAt a.s.now a.at ≡ Not = sym c.before.before.get-digits.ensures ∙ c.enum_told.given.1 in
+    let h : digits_at a.s.now a.at ≡ Not = sym c.before.before.get-digits.ensures ∙ c.enum_told.given.1 in
     rw h
 
 pub get-minus-spec : {M : Type 1} → statement M

@@ -4,14 +4,14 @@ use mathlib.Core.List.{List}
 use lib.ListN.{length, drop, drop_of_length-le, get_or-eq_default}
 use borrow.Author.Tests.{eq-eqb, ne_eqb}
 use Rattle.text.specs.declared.decimal.Got.TheVariants.{Nothing}
-use Rattle.text.specs.Number.{many, plusAt, number_at}
+use Rattle.text.specs.Number.{many, plus_at, number_at}
 use Rattle.text.proofs.Reading.{none}
 use borrow.Author.Rules.{rules}
 use Rattle.text.proofs.decimal.get_number.Statement.{statement}
 use Rattle.text.proofs.decimal.get_number.Tie as tie
 
 at-end : (s : List ℕ) (at : ℕ) → length s ≤ at → number_at s at ≡ Nothing
-unfolding number_at plusAt many
+unfolding number_at plus_at many
 at-end s at h =
     let z : many (drop at s) ≡ 0 = rw (drop_of_length-le s h) in
     rw (get_or-eq_default s 0 h, none s at z)

@@ -3,13 +3,13 @@ use mathlib.Core.Path.{◌≡◌, ap}
 use native.Mathlib.Omega.{arith}
 use borrow.Author.Rules.{rules}
 use lib.ListN.{length, drop, length-drop}
-use Rattle.text.specs.Hex.{nibbleAt, hexBytes}
+use Rattle.text.specs.Hex.{nibble_at, hex_bytes}
 use Rattle.text.proofs.Pairs.{inside, pair-first, pair-second, pair-more, halves}
 use Rattle.text.proofs.hex.count_bytes.Statement.{statement}
 use Rattle.text.proofs.hex.count_bytes.Tie as tie
 
 abbrev invariant-loop : tie.invariant-loop
-invariant-loop s at i₀ n₀ i n = n + length (hexBytes (drop i s)) ≡ length (hexBytes (drop at s))
+invariant-loop s at i₀ n₀ i n = n + length (hex_bytes (drop i s)) ≡ length (hex_bytes (drop at s))
 
 abbrev decreases-loop : tie.decreases-loop
 decreases-loop s at i₀ n₀ i n = length s - i
@@ -30,32 +30,32 @@ add-i : tie.Need-overflow-add-i invariant-loop decreases-loop
 add-i c =
     let x = c.before.before.before.before.loop in
     let s = c.before.before.before.before.before.before.args.s.now in
-    let h : nibbleAt s x.i < 16 = omega (arith, c.before.before.before.nibble-at.ensures, c.before.before.if1.false) in
-    let k : nibbleAt s (x.i + 1) < 16 = omega (arith, c.before.nibble-at2.ensures, c.if2.false) in
+    let h : nibble_at s x.i < 16 = omega (arith, c.before.before.before.nibble-at.ensures, c.before.before.if1.false) in
+    let k : nibble_at s (x.i + 1) < 16 = omega (arith, c.before.nibble-at2.ensures, c.if2.false) in
     omega (arith, inside s (x.i + 1) k)
 
 add-n : tie.Need-overflow-add-n invariant-loop decreases-loop
 add-n c =
     let x = c.before.before.before.before.loop in
     let s = c.before.before.before.before.before.before.args.s.now in
-    let h : nibbleAt s x.i < 16 = omega (arith, c.before.before.before.nibble-at.ensures, c.before.before.if1.false) in
-    let k : nibbleAt s (x.i + 1) < 16 = omega (arith, c.before.nibble-at2.ensures, c.if2.false) in
+    let h : nibble_at s x.i < 16 = omega (arith, c.before.before.before.nibble-at.ensures, c.before.before.if1.false) in
+    let k : nibble_at s (x.i + 1) < 16 = omega (arith, c.before.nibble-at2.ensures, c.if2.false) in
     omega (arith, x.invariant, ap length (pair-more s x.i h k), halves (drop c.before.before.before.before.before.before.args.at s), length-drop c.before.before.before.before.before.before.args.at s)
 
 loop-less : tie.Need-loop-smaller invariant-loop decreases-loop
 loop-less c =
     let x = c.before.before.before.before.loop in
     let s = c.before.before.before.before.before.before.args.s.now in
-    let h : nibbleAt s x.i < 16 = omega (arith, c.before.before.before.nibble-at.ensures, c.before.before.if1.false) in
-    let k : nibbleAt s (x.i + 1) < 16 = omega (arith, c.before.nibble-at2.ensures, c.if2.false) in
+    let h : nibble_at s x.i < 16 = omega (arith, c.before.before.before.nibble-at.ensures, c.before.before.if1.false) in
+    let k : nibble_at s (x.i + 1) < 16 = omega (arith, c.before.nibble-at2.ensures, c.if2.false) in
     omega (arith, inside s (x.i + 1) k)
 
 loop-again : tie.Need-loop-preserved invariant-loop decreases-loop
 loop-again c =
     let x = c.before.before.before.before.loop in
     let s = c.before.before.before.before.before.before.args.s.now in
-    let h : nibbleAt s x.i < 16 = omega (arith, c.before.before.before.nibble-at.ensures, c.before.before.if1.false) in
-    let k : nibbleAt s (x.i + 1) < 16 = omega (arith, c.before.nibble-at2.ensures, c.if2.false) in
+    let h : nibble_at s x.i < 16 = omega (arith, c.before.before.before.nibble-at.ensures, c.before.before.if1.false) in
+    let k : nibble_at s (x.i + 1) < 16 = omega (arith, c.before.nibble-at2.ensures, c.if2.false) in
     omega (arith, x.invariant, ap length (pair-more s x.i h k))
 
 returns : tie.Need-returns invariant-loop decreases-loop

@@ -6,7 +6,7 @@ use borrow.Author.Rules.{rules}
 use lib.ListN.{length, drop, length-set}
 use native.Mathlib.Numerals.{add-one}
 use lib.Seq.{sets}
-use Rattle.text.specs.Hex.{hexBytes}
+use Rattle.text.specs.Hex.{hex_bytes}
 use Rattle.text.proofs.Pairs.{inside, pair-some, pair-more}
 use Rattle.text.proofs.hex.fill_bytes.Statement.{statement}
 use Rattle.text.proofs.hex.fill_bytes.Tie as tie
@@ -17,9 +17,9 @@ no_length (x ∷ xs) e = absurd (omega arith)
 
 abbrev invariant-loop : tie.invariant-loop
 invariant-loop s at n out₀ i₀ j₀ out i j =
-    (j + length (hexBytes (drop i s)) ≡ n)
+    (j + length (hex_bytes (drop i s)) ≡ n)
     × (length out ≡ length out₀)
-    × (sets out₀ 0 (hexBytes (drop at s)) ≡ sets out j (hexBytes (drop i s)))
+    × (sets out₀ 0 (hex_bytes (drop at s)) ≡ sets out j (hex_bytes (drop i s)))
 
 abbrev decreases-loop : tie.decreases-loop
 decreases-loop s at n out₀ i₀ j₀ out i j = n - j
@@ -85,7 +85,7 @@ same_length c = c.before.loop.invariant.1
 returns : tie.Need-returns invariant-loop decreases-loop
 returns c =
     let x = c.before.loop in
-    sym (x.invariant.2 ∙ ap (sets x.out x.j) (no_length (hexBytes (drop x.i c.before.before.before.before.args.s.now)) (omega (arith, x.invariant.0))))
+    sym (x.invariant.2 ∙ ap (sets x.out x.j) (no_length (hex_bytes (drop x.i c.before.before.before.before.args.s.now)) (omega (arith, x.invariant.0))))
 
 pub fill-bytes-spec : {M : Type 1} → statement M
 fill-bytes-spec =

@@ -4,7 +4,7 @@ use native.Mathlib.Omega.{arith}
 use lib.ListN.{length, drop, length-set}
 use native.Mathlib.Numerals.{add-one}
 use lib.Seq.{sets}
-use Rattle.text.specs.Hex.{hexText}
+use Rattle.text.specs.Hex.{hex_text}
 use Rattle.text.proofs.Pairs.{text-length, text-more, text-end}
 use Rattle.text.proofs.hex.fill_hex.Statement.{statement}
 use Rattle.text.proofs.hex.fill_hex.Tie as tie
@@ -14,7 +14,7 @@ invariant-loop out₀ at bytes i₀ j₀ out i j =
     (j ≤ length bytes)
     × (i ≡ at + 2 * j)
     × (length out ≡ length out₀)
-    × (sets out₀ at (hexText bytes) ≡ sets out i (hexText (drop j bytes)))
+    × (sets out₀ at (hex_text bytes) ≡ sets out i (hex_text (drop j bytes)))
 
 abbrev decreases-loop : tie.decreases-loop
 decreases-loop out₀ at bytes i₀ j₀ out i j = length bytes - j

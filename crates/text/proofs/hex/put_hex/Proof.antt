@@ -3,7 +3,7 @@ use mathlib.Core.Path.{sym, ◌∙◌}
 use native.Mathlib.Omega.{arith}
 use lib.ListN.{length}
 use borrow.Author.Rules.{rules}
-use Rattle.text.specs.Hex.{hexText}
+use Rattle.text.specs.Hex.{hex_text}
 use Rattle.text.proofs.Pairs.{text-length}
 use Rattle.text.proofs.Room.{room, no_room}
 use Rattle.text.proofs.hex.put_hex.Statement.{statement}
@@ -12,7 +12,7 @@ use Rattle.text.proofs.hex.put_hex.Tie as tie
 returns : tie.Need-returns
 returns c =
     let a = c.before.before.before.args in
-    no_room a.out.now a.at (2 * length a.bytes.now) (hexText a.bytes.now) (sym (text-length a.bytes.now)) (omega arith)
+    no_room a.out.now a.at (2 * length a.bytes.now) (hex_text a.bytes.now) (sym (text-length a.bytes.now)) (omega arith)
 
 sub-if2 : tie.Need-overflow-sub-if2
 sub-if2 c = search rules
@@ -20,7 +20,7 @@ sub-if2 c = search rules
 returns-2 : tie.Need-returns-2
 returns-2 c =
     let a = c.before.before.before.before.args in
-    no_room a.out.now a.at (2 * length a.bytes.now) (hexText a.bytes.now) (sym (text-length a.bytes.now)) (omega arith)
+    no_room a.out.now a.at (2 * length a.bytes.now) (hex_text a.bytes.now) (sym (text-length a.bytes.now)) (omega arith)
 
 fill-hex-requires : tie.Need-fill-hex-requires
 fill-hex-requires c κs = omega (arith, text-length c.before.before.before.before.before.args.bytes.now)
@@ -37,7 +37,7 @@ same_length c = search rules
 returns-3 : tie.Need-returns-3
 returns-3 c =
     let a = c.before.before.before.before.before.before.before.before.args in
-    let r = room a.out.now a.at (2 * length a.bytes.now) (hexText a.bytes.now) (sym (text-length a.bytes.now)) (omega arith) in
+    let r = room a.out.now a.at (2 * length a.bytes.now) (hex_text a.bytes.now) (sym (text-length a.bytes.now)) (omega arith) in
     (r.0, c.before.before.fill-hex.ensures ∙ r.1)
 
 pub put-hex-spec : {M : Type 1} → statement M

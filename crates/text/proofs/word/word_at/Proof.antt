@@ -3,7 +3,7 @@ use mathlib.Core.Path.{◌≡◌, sym, ap, ◌∙◌}
 use native.Mathlib.Omega.{arith}
 use mathlib.Core.List.{List, []}
 use lib.ListN.{take, drop}
-use Rattle.text.specs.Word.{letters, word_of, firstCode, secondCode}
+use Rattle.text.specs.Word.{letters, word_of, first_code, second_code}
 use Rattle.text.proofs.Words.{none-past, none_first, none-second}
 use borrow.Author.Rules.{rules}
 use Rattle.text.proofs.word.word_at.Statement.{statement}
@@ -48,14 +48,14 @@ returns c =
     let w = c.before.before.before.before.before in
     let a = w.before.before.args in
     let b = between a.s.now a.at w.word-end.result w.word-end.ensures in
-    (w.word-end.ensures, c.before.before.first_code.ensures ∙ ap firstCode b, c.second-code.ensures ∙ ap secondCode b)
+    (w.word-end.ensures, c.before.before.first_code.ensures ∙ ap first_code b, c.second-code.ensures ∙ ap second_code b)
 
 returns-2 : tie.Need-returns-2
 returns-2 c =
     let w = c.before in
     let a = w.before.before.args in
     let n : word_of a.s.now a.at ≡ [] = none-past a.s.now a.at (omega (arith, w.word-end.ensures)) in
-    (w.word-end.ensures, sym (ap firstCode n ∙ none_first), sym (ap secondCode n ∙ none-second))
+    (w.word-end.ensures, sym (ap first_code n ∙ none_first), sym (ap second_code n ∙ none-second))
 
 pub word-at-spec : {M : Type 1} → statement M
 word-at-spec =

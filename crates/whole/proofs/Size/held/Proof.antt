@@ -1,6 +1,6 @@
 use Rattle.whole.proofs.Sizes.{exact-called}
 use Rattle.whole.proofs.Flags.{flags}
-use Rattle.whole.specs.Sized.{heldTo}
+use Rattle.whole.specs.Sized.{held_to}
 use borrow.Author.Rules.{rules}
 use Rattle.whole.proofs.Size.held.Statement.{statement}
 use Rattle.whole.proofs.Size.held.Tie as tie
@@ -15,11 +15,11 @@ enum_told : tie.Need-enum-told
 enum_told c = search rules
 
 returns : tie.Need-returns
-unfolding heldTo
+unfolding held_to
 returns c = rw c.before.before.e.given.1 (search (exact-called, flags))
 
 returns-2 : tie.Need-returns-2
-unfolding heldTo
+unfolding held_to
 returns-2 c = rw c.enum_told.given.1
 
 pub held_spec : {M : Type 1} → statement M
