@@ -1,4 +1,6 @@
 // Answers the questions on standard input, a line each: the name of a family and of an operation, and its operands.
+#![tactic(auto)]
+
 mod answer;
 mod line;
 mod sheets;
@@ -87,7 +89,7 @@ fn answer_too_long(out: &mut [u8]) {
 }
 
 // What is known between two reads.
-#[derive(Drop)]
+#[derive(Clone, Copy)]
 struct State {
     // How many bytes of an unfinished line wait at the start of the buffer.
     have: usize,

@@ -7,7 +7,7 @@ use text::decimal::Got;
 use text::hex::Bytes;
 
 // Numbers to the end of the line, stored in the lent room.
-#[derive(Drop)]
+#[derive(Clone, Copy)]
 pub enum Many {
     // How many they are.
     Are(usize),
@@ -42,7 +42,7 @@ pub(crate) fn numbers(line: &[u8], at: usize, room: &mut [i64]) -> Many
 }
 
 // Bytes in hexadecimal, or `-` for none, stored in the lent room.
-#[derive(Drop)]
+#[derive(Clone, Copy)]
 pub enum HexBytes {
     // How many they are, and the place after them.
     Are(usize, usize),

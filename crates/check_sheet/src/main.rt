@@ -1,4 +1,6 @@
 // Checks the sheet on standard input, or those in the files that the arguments name, and prints what each step shows.
+#![tactic(auto)]
+
 mod printed;
 
 use files::Contents;

@@ -1,4 +1,6 @@
 // Congruences: the numbers c + m * k. The type, what an answer is, and what every operation asks of its arguments.
+#![tactic(auto)]
+
 use number::{gcd_then, leaves};
 use refusal::Refusal;
 use whole::{Exact, Order, Size, floored_remainder};
@@ -18,35 +20,35 @@ ghost use Rattle.congruence.specs.Numbers.{formula, divides?};
 ghost use Rattle.congruence.specs.Ported as spec;
 
 // (c, 0) stands for c alone, (c, m) for all x with x - c divisible by m, and (1, 1) for nothing.
-#[derive(Drop)]
+#[derive(Clone, Copy)]
 pub struct Congruence {
     pub constant: i64,
     pub modulus: i64,
 }
 
 // A congruence, or the refusal.
-#[derive(Drop)]
+#[derive(Clone, Copy)]
 pub enum CongruenceAnswer {
     Is(Congruence),
     Refused(Refusal),
 }
 
 // A truth, or the refusal.
-#[derive(Drop)]
+#[derive(Clone, Copy)]
 pub enum TruthAnswer {
     Is(bool),
     Refused(Refusal),
 }
 
 // How two congruences compare, or the refusal.
-#[derive(Drop)]
+#[derive(Clone, Copy)]
 pub enum OrderAnswer {
     Is(Order),
     Refused(Refusal),
 }
 
 // The single number that a congruence stands for, that it isn't one, or the refusal.
-#[derive(Drop)]
+#[derive(Clone, Copy)]
 pub enum SingleAnswer {
     Is(i64),
     None,

@@ -1,4 +1,6 @@
 // The desk: the check of a sheet's bytes on shown values.
+#![tactic(auto)]
+
 ghost use Rattle.std.specs.Prelude.{◌≡◌, ◌+◌, ◌*◌, ◌/◌, ◌<◌, ◌≤◌, [], ◌∷◌, pos, length};
 ghost use Rattle.sign.specs.Index.{index_of};
 ghost use Rattle.std.proofs.lemmas.List.Edits.{sets};
@@ -21,7 +23,7 @@ use step::show::{Shown, ShownAnswer};
 use whole::Size;
 
 // What checking a sheet answers.
-#[derive(Drop)]
+#[derive(Clone, Copy)]
 pub enum CheckAnswer {
     // How many steps it has: each is shown.
     Passed(usize),

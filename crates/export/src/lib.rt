@@ -1,5 +1,7 @@
 // What Rust or C calls: numbers and lent slices, and nothing asked of the caller but what the language asks of lent slices.
 // A call returns a status, 0 where its value was put, else the number of the refusal. A refusal of the operation goes before 16.
+#![tactic(auto)]
+
 ghost use Rattle.std.specs.Prelude.{[], ◌∷◌, pos, nat_abs};
 ghost use Rattle.std.specs.Int.{w64};
 ghost use Rattle.whole.specs.Divides as divides;

@@ -1,9 +1,11 @@
 // What a program reads: standard input, or the file that an argument names. And what it writes, to standard output.
+#![tactic(auto)]
+
 ghost use Rattle.std.specs.Prelude.{◌≤◌, length};
 ghost use Rattle.files.specs.Count.{count_of};
 
 // What reading into a lent buffer answers.
-#[derive(Drop)]
+#[derive(Clone, Copy)]
 pub enum Contents {
     // How many bytes stand at its start: all there are, or as many as it has room for.
     Bytes(usize),

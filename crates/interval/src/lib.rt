@@ -1,4 +1,6 @@
 // Intervals: the whole numbers from min to max. Bottom, which stands for none, is [MAX, MIN].
+#![tactic(auto)]
+
 ghost use Rattle.std.specs.Prelude.{◌≡◌, ◌&&◌};
 ghost use Rattle.std.specs.Int.{w64};
 ghost use Rattle.whole.specs.Choice.{pick};
@@ -20,33 +22,33 @@ pub mod sized; // sized.rt: the twins that are right, at a size of numbers
 pub mod mended; // mended.rt: those at 64 bits
 
 // Canonical: min at most max, or bottom. Every pair is in the domain of the ported operations.
-#[derive(Drop)]
+#[derive(Clone, Copy)]
 pub struct Interval {
     pub min: i64,
     pub max: i64,
 }
 
 // The one number of an interval, if it has one only.
-#[derive(Drop)]
+#[derive(Clone, Copy)]
 pub enum Single {
     One(i64),
     None,
 }
 
-#[derive(Drop)]
+#[derive(Clone, Copy)]
 pub enum IntervalAnswer {
     Is(Interval),
     Refused(Refusal),
 }
 
 // Two intervals, one for each side of a comparison.
-#[derive(Drop)]
+#[derive(Clone, Copy)]
 pub struct Pair {
     pub left: Interval,
     pub right: Interval,
 }
 
-#[derive(Drop)]
+#[derive(Clone, Copy)]
 pub enum PairAnswer {
     Is(Pair),
     Refused(Refusal),

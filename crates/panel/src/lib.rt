@@ -1,4 +1,6 @@
 // The panel: the run of a sheet's bytes on numbers.
+#![tactic(auto)]
+
 ghost use Rattle.std.specs.Prelude.{◌≡◌, ◌+◌, ◌*◌, ◌<◌, ◌≤◌, pos, length, take, drop, get_or};
 ghost use Rattle.std.proofs.lemmas.List.Edits.{sets};
 ghost use Rattle.whole.specs.Sized.{width_of};
@@ -13,7 +15,7 @@ use step::{Action, Outcome};
 use whole::Size;
 
 // What running a sheet answers.
-#[derive(Drop)]
+#[derive(Clone, Copy)]
 pub enum RunAnswer {
     // How many steps it has: each has given its number.
     Ended(usize),

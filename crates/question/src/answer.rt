@@ -8,7 +8,7 @@ use refusal::Refusal;
 use sign::{Sign, SignAnswer};
 use whole::{Exact, Order, Size};
 
-#[derive(Drop)]
+#[derive(Clone, Copy)]
 pub enum Answer {
     Sign(Sign),
     // of numbers of a width

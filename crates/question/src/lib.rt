@@ -1,4 +1,6 @@
 // Questions that need no sheet: a line is the name of a family and of an operation, and its operands; the answer is a value.
+#![tactic(auto)]
+
 pub mod answer; // answer.rt: what a question is answered
 mod congruences; // congruences.rt: `congruence`, and `mended congruence` at a size
 mod intervals; // intervals.rt: `interval`, and `mended interval` at a size

@@ -7,7 +7,7 @@ ghost use Rattle.question.specs.declared.names.Name.TheVariants.{Unknown};
 use sign::Sign;
 use text::word::Word;
 
-#[derive(Drop)]
+#[derive(Clone, Copy)]
 pub enum Name {
     // no name
     Unknown,

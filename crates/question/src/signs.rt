@@ -7,7 +7,7 @@ use sign::{Sign, mended, ported};
 use text::word::Word;
 
 // A sign, and the place after it.
-#[derive(Drop)]
+#[derive(Clone, Copy)]
 pub enum Taken {
     Is(Sign, usize),
     Not,
@@ -24,7 +24,7 @@ fn take(line: &[u8], at: usize) -> Taken {
 }
 
 // Signs that end the line, and the truth value that logical_eq has after them.
-#[derive(Drop)]
+#[derive(Clone, Copy)]
 pub enum Signs {
     None,
     One(Sign),

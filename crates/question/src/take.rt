@@ -21,7 +21,7 @@ pub fn number(line: &[u8], at: usize) -> Got
 }
 
 // One number that ends the line.
-#[derive(Drop)]
+#[derive(Clone, Copy)]
 pub enum Single {
     Is(i64),
     Not,
@@ -41,7 +41,7 @@ pub(crate) fn one(line: &[u8], at: usize) -> Single
 }
 
 // Two numbers that end the line.
-#[derive(Drop)]
+#[derive(Clone, Copy)]
 pub enum Pair {
     Are(i64, i64),
     Not,
@@ -64,7 +64,7 @@ pub(crate) fn two(line: &[u8], at: usize) -> Pair
 }
 
 // Numbers that end the line, as many as an operation takes.
-#[derive(Drop)]
+#[derive(Clone, Copy)]
 pub enum Operands {
     None,
     One(i64),

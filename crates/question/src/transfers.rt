@@ -8,7 +8,7 @@ use text::decimal::Got;
 use whole::Size;
 
 // An operator's number, and four or two numbers to work on.
-#[derive(Drop)]
+#[derive(Clone, Copy)]
 enum Asked {
     Binary(i64, i64, i64, i64, i64),
     Unary(i64, i64, i64),

@@ -1,8 +1,10 @@
 // The numbered refusals of document 01, and the number of each.
+#![tactic(auto)]
+
 ghost use Rattle.std.specs.Prelude.{◌≡◌};
 ghost use Rattle.refusal.specs.Number.{number_of};
 
-#[derive(Drop)]
+#[derive(Clone, Copy)]
 pub enum Refusal {
     // 1: not in the domain, an operator outside 2 to 15, an unused field, a count that four doesn't divide.
     NotInDomain,

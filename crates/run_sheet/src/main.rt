@@ -1,5 +1,7 @@
 // Runs the sheet on standard input on the numbers that the arguments are. A word that is no number names a file, which is run on the
 // numbers after it.
+#![tactic(auto)]
+
 mod printed;
 
 ghost use Rattle.std.specs.Prelude.{◌≤◌, length};
@@ -8,7 +10,7 @@ use files::Contents;
 use text::decimal::Got;
 
 // A word among the arguments.
-#[derive(Drop)]
+#[derive(Clone, Copy)]
 enum Word {
     Number(i64),
     Name,

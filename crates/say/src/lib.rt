@@ -1,4 +1,6 @@
 // What the programs print: each function puts its text after `made` bytes, and answers the place after it.
+#![tactic(auto)]
+
 ghost use Rattle.std.specs.Prelude.{◌≡◌, [], ◌∷◌, ◌++◌};
 ghost use Rattle.refusal.specs.Number.{number_of};
 ghost use Rattle.std.specs.Int.{w64};

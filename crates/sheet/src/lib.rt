@@ -1,4 +1,6 @@
 // Sheets: bytes to steps and back.
+#![tactic(auto)]
+
 ghost use Rattle.std.specs.Prelude.{◌≡◌};
 ghost use Rattle.sheet.specs.Answer.{read_told, reading, write_told, writing, answer, content};
 
@@ -18,7 +20,7 @@ mod faults; // faults.rt: what is wrong with steps that are to be written
 mod writing; // writing.rt: steps into bytes
 
 // What reading a sheet answers.
-#[derive(Drop)]
+#[derive(Clone, Copy)]
 pub enum ReadAnswer {
     // The count of its steps.
     Steps(usize),
@@ -54,7 +56,7 @@ pub fn read(bytes: &[u8], out: &mut [i64]) -> ReadAnswer
 }
 
 // What writing a sheet answers.
-#[derive(Drop)]
+#[derive(Clone, Copy)]
 pub enum WriteAnswer {
     // The count of its bytes.
     Bytes(usize),

@@ -14,21 +14,21 @@ use crate::signed::unfold;
 use refusal::Refusal;
 
 // A field and the place after it, or a refusal and its place.
-#[derive(Drop)]
+#[derive(Clone, Copy)]
 pub enum FieldRead {
     Field(i64, usize),
     Refused(Refusal, usize),
 }
 
 // A step's operator, its three fields and the place after it, or a refusal and its place.
-#[derive(Drop)]
+#[derive(Clone, Copy)]
 pub enum StepRead {
     Step(i64, i64, i64, i64, usize),
     Refused(Refusal, usize),
 }
 
 // Whether all steps are right, or a refusal and its place.
-#[derive(Drop)]
+#[derive(Clone, Copy)]
 pub enum Checked {
     Fine,
     Wrong(Refusal, usize),

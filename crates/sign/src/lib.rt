@@ -1,4 +1,6 @@
 // The signs: the eight subsets of {negative, zero, positive}.
+#![tactic(auto)]
+
 ghost use Rattle.std.specs.Prelude.{◌≡◌};
 ghost use Rattle.sign.specs.Index.{index_of};
 ghost use Rattle.sign.specs.Set as sets;
@@ -12,7 +14,7 @@ mod tables;
 use refusal::Refusal;
 
 // Each sign's comment names what it stands for, as in the Rust.
-#[derive(Drop)]
+#[derive(Clone, Copy)]
 pub enum Sign {
     // Every number.
     Top,
@@ -36,7 +38,7 @@ impl Sign {
 }
 
 // A sign, or the refusal in place of the Rust's panic.
-#[derive(Drop)]
+#[derive(Clone, Copy)]
 pub enum SignAnswer {
     Is(Sign),
     Refused(Refusal),

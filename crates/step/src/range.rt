@@ -12,7 +12,7 @@ use refusal::Refusal;
 use whole::Size;
 
 // A range, or its refusal by 12, 13 or 14.
-#[derive(Drop)]
+#[derive(Clone, Copy)]
 pub enum RangeAnswer {
     Shows(Interval),
     Declines(Refusal),

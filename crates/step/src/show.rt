@@ -12,7 +12,7 @@ use sign::Sign;
 use whole::Size;
 
 // What is known of a step's numbers. Other crates ask it by its functions.
-#[derive(Drop)]
+#[derive(Clone, Copy)]
 pub struct Shown {
     pub range: Interval,
     pub spacing: Congruence,
@@ -40,7 +40,7 @@ impl Shown {
 }
 
 // What a step shows, or its refusal by 12, 13 or 14.
-#[derive(Drop)]
+#[derive(Clone, Copy)]
 pub enum ShownAnswer {
     Shows(Shown),
     Declines(Refusal),

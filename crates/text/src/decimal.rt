@@ -98,7 +98,7 @@ fn digit_at(s: &[u8], i: usize) -> u64
 }
 
 // The digits at a place.
-#[derive(Drop)]
+#[derive(Clone, Copy)]
 enum Digits {
     // Their number, at most 2^63, and the place after them.
     Value(u64, usize),
@@ -132,7 +132,7 @@ fn get_digits(s: &[u8], at: usize) -> Digits
 }
 
 // The number at a place.
-#[derive(Drop)]
+#[derive(Clone, Copy)]
 pub enum Got {
     // It, and the place after it.
     Number(i64, usize),

@@ -44,7 +44,7 @@ pub fn put_hex(out: &mut [u8], at: usize, bytes: &[u8]) -> Put
 }
 
 // What reading bytes answers.
-#[derive(Drop)]
+#[derive(Clone, Copy)]
 pub enum Bytes {
     // How many they are, and the place after them.
     Are(usize, usize),

@@ -1,4 +1,6 @@
 // Text for programs: numbers in decimal, the ends of a range, words, and bytes in hexadecimal.
+#![tactic(auto)]
+
 ghost use Rattle.std.specs.Prelude.{◌≡◌};
 
 pub mod decimal;
@@ -7,7 +9,7 @@ pub mod hex;
 pub mod word;
 
 // What putting bytes at a place of a lent buffer answers.
-#[derive(Drop)]
+#[derive(Clone, Copy)]
 pub enum Put {
     // The place after them.
     Next(usize),

@@ -101,7 +101,7 @@ fn second_code(w: &[u8]) -> u64
 }
 
 // A word of at most sixteen bytes as two numbers, to match on, and the place after it. Both are 0 for a longer word.
-#[derive(Drop)]
+#[derive(Clone, Copy)]
 pub struct Word {
     pub first: u64,
     pub second: u64,

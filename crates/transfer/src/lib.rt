@@ -1,4 +1,6 @@
 // The transfers of the two analyses, ported: what an operator, by its number in a sheet, does to intervals and to congruences.
+#![tactic(auto)]
+
 ghost use Rattle.std.specs.Prelude.{◌≡◌, ℤ};
 ghost use Rattle.interval.specs.Answer.{told};
 ghost use Rattle.congruence.specs.Answer.{told as spacing_told, order_told};

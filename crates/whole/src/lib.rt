@@ -1,5 +1,7 @@
 // Whole numbers as i64 has them: exact sums, differences and products or that they don't fit, saturated ones, the least and
 // the greatest, the floored remainder, and the common divisor and multiple. The laws stand in proofs/.
+#![tactic(auto)]
+
 ghost use Rattle.std.specs.Prelude.{◌≡◌, Bool, true, false, ◌&&◌, ℕ, ◌*◌, leb, ltb, ℤ, pos, negsuc, neg_ℤ, nat_abs, ◌+ℤ◌, ◌-ℤ◌, ◌*ℤ◌};
 ghost use Rattle.std.specs.Int.Signed.{quot_z, rem_z};
 ghost use Rattle.std.specs.Int.{w64};
@@ -15,14 +17,14 @@ pub const MAX: i64 = 9223372036854775807;
 pub const MIN: i64 = -9223372036854775808;
 
 // A whole number that was asked for, or that no i64 is it (refusal 2 of document 01).
-#[derive(Drop)]
+#[derive(Clone, Copy)]
 pub enum Exact {
     Is(i64),
     DoesNotFit,
 }
 
 // How two values compare: one of three ways, or none.
-#[derive(Drop)]
+#[derive(Clone, Copy)]
 pub enum Order {
     Less,
     Equal,
@@ -309,7 +311,7 @@ pub fn lcm(a: i64, b: i64) -> Exact
 
 // ---- the widths that panels have
 
-#[derive(Drop)]
+#[derive(Clone, Copy)]
 pub enum Size {
     B16,
     B32,
