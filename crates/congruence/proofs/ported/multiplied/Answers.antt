@@ -1,0 +1,13 @@
+use Rattle.whole.proofs.Fits.{fits}
+use Rattle.congruence.proofs.Calls.{calls}
+use Rattle.congruence.proofs.Values.{values}
+use Rattle.congruence.specs.Ported.{multiplied}
+use Rattle.congruence.proofs.ported.multiplied.Goals as goal
+
+pub returns-then-either_bottom : goal.returns-then-either_bottom
+unfolding multiplied
+returns-then-either_bottom c = search (calls, values) depth 9 fits 5000
+
+pub returns : goal.returns
+unfolding multiplied
+returns c = search (calls, values) depth 9 fits 5000

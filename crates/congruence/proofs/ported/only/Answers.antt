@@ -1,0 +1,11 @@
+use Rattle.congruence.proofs.Values.{values}
+use Rattle.congruence.specs.Ported.{only?}
+use Rattle.congruence.proofs.ported.only.Goals as goal
+
+pub returns-then-a-eq0 : goal.returns-then-a-eq0
+unfolding only?
+returns-then-a-eq0 c = search values
+
+pub returns-else-a-eq0 : goal.returns-else-a-eq0
+unfolding only?
+returns-else-a-eq0 c = search values

@@ -1,0 +1,39 @@
+use mathlib.Core.Path.{sym, ap, ◌∙◌, subst}
+use mathlib.Core.Logic.{⊎_elim}
+use Prim.Native.Nat.{◌+◌, ◌*◌, ◌/◌, ◌%◌, ◌<◌}
+use native.Mathlib.Omega.{arith}
+use native.Mathlib.Nat.{mod-lt, pos_of_ne-zero, mod-eq_of_lt, div-add-mod', zero-add}
+use Rattle.congruence.proofs.Residues.{even_step, odd_step, pos_of_lt, nothing_left}
+use Rattle.congruence.proofs.residue.mul_mod.Goals as goal
+
+-- What is gathered, and what is left times the doubled number, is the product modulo n.
+
+pub loop-k-init : goal.loop-k-init
+loop-k-init c = (omega arith, c.requires.1, ap (λ t. t % c.args.n) (zero-add (c.args.a * c.args.b)))
+
+pub loop-k-smaller : goal.loop-k-smaller
+loop-k-smaller c = let h = pos_of_ne-zero c.loop-k-test.true in omega (arith, div-add-mod' c.loop-k.k 2)
+
+pub loop-k-preserved : goal.loop-k-preserved
+loop-k-preserved c =
+    let n = c.args.n in
+    let l = c.loop-k in
+    let p = pos_of_lt l.invariant.0 in
+    ⊎_elim
+    (λ w. (
+      subst (λ t. t < n) (sym w.1) (mod-lt (l.sum + l.x) p),
+      mod-lt (l.x + l.x) p,
+      ap (λ t. (t + l.k / 2 * ((l.x + l.x) % n)) % n) w.1 ∙ (sym (odd_step l.sum l.k l.x n w.0.taken) ∙ l.invariant.2),
+    ))
+    (λ w. (
+      subst (λ t. t < n) (sym w.1) l.invariant.0,
+      mod-lt (l.x + l.x) p,
+      ap (λ t. (t + l.k / 2 * ((l.x + l.x) % n)) % n) w.1 ∙ (sym (even_step l.sum l.k l.x n w.0.left) ∙ l.invariant.2),
+    ))
+    c.if-k-eq1.branch
+
+pub returns : goal.returns
+returns c =
+    let n = c.args.n in
+    let i = c.loop-k.invariant in
+    sym (mod-eq_of_lt i.0) ∙ (nothing_left c.loop-k.sum c.loop-k.k c.loop-k.x n c.loop-k-test.false ∙ i.2)

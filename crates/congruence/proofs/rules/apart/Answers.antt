@@ -1,0 +1,13 @@
+use Rattle.whole.proofs.Fits.{fits}
+use Rattle.congruence.proofs.Calls.{calls}
+use Rattle.congruence.proofs.Values.{values}
+use Rattle.congruence.specs.Mended.{apart?}
+use Rattle.congruence.proofs.rules.apart.Goals as goal
+
+pub returns-then-either_bottom : goal.returns-then-either_bottom
+unfolding apart?
+returns-then-either_bottom c = search (calls, values) depth 9 fits 5000
+
+pub returns : goal.returns
+unfolding apart?
+returns c = search (calls, values) depth 9 fits 5000

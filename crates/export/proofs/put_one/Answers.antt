@@ -1,0 +1,12 @@
+use native.Mathlib.Omega.{arith}
+use mathlib.Core.List.{◌∷◌}
+use mathlib.Core.Path.{refl}
+use mir.Facts.{to_z-of_z}
+use Rattle.export.proofs.Put.{leaves_all, leaves-short}
+use Rattle.export.proofs.put_one.Goals as goal
+
+pub returns-then-room-lt1 : goal.returns-then-room-lt1
+returns-then-room-lt1 c = leaves-short (c.args.x ∷ []) c.args.room.now c.number.result (omega (arith, c.if-room-lt1.true)) c.number.ensures
+
+pub returns : goal.returns
+returns c = simp (to_z-of_z c.ranges.x) (leaves_all (c.args.x ∷ []) c.args.room.now _ (omega (arith, c.if-room-lt1.false)) refl)

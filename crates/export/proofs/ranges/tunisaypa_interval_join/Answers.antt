@@ -1,0 +1,12 @@
+use mathlib.Core.Path.{ap}
+use mir.Facts.{to_z-of_z}
+use Rattle.refusal.specs.Answer.{is}
+use Rattle.interval.specs.Mended as mended
+use Rattle.export.proofs.Put.{ranged}
+use Rattle.export.proofs.ranges.tunisaypa_interval_join.Goals as goal
+
+pub returns : goal.returns
+returns c =
+    let p = simp (to_z-of_z c.fits.a, to_z-of_z c.fits.b) at c.between-x.ensures in
+    let q = simp (to_z-of_z c.fits.c, to_z-of_z c.fits.d) at c.between-y.ensures in
+    ranged (λ x y. is (mended.join x y)) (ap is c.join.ensures) p q c.put_range.ensures

@@ -1,0 +1,9 @@
+use mir.Syntax.{w64}
+use mir.ValLaws.{to_z-of_z}
+use Rattle.say.proofs.range.Goals as goal
+
+pub returns : goal.returns
+returns c =
+    c.word-a.ensures and_then (rw (to_z-of_z w64 c.args.low c.ranges.low) at c.range_end-b.ensures)
+    and_then c.word-c.ensures and_then (rw (to_z-of_z w64 c.args.high c.ranges.high) at c.range_end-d.ensures)
+    and_then c.word.ensures

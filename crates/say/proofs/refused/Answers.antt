@@ -1,0 +1,4 @@
+use Rattle.say.proofs.refused.Goals as goal
+
+pub returns : goal.returns
+returns c = c.word-e.ensures and_then (rw c.number.ensures at c.natural.ensures)

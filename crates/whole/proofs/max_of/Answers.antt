@@ -1,0 +1,11 @@
+use Rattle.whole.specs.Whole.{max_ℤ}
+use Rattle.whole.proofs.Flags.{flags}
+use Rattle.whole.proofs.max_of.Goals as goal
+
+pub returns-then-a-b : goal.returns-then-a-b
+unfolding max_ℤ
+returns-then-a-b c = search flags
+
+pub returns-else-a-b : goal.returns-else-a-b
+unfolding max_ℤ
+returns-else-a-b c = search flags
