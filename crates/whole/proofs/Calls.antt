@@ -1,5 +1,5 @@
 -- What a call ensures, carried from the values that the callee was handed to those that a definition names: a line for each callee.
-use mathlib.Core.Path.{◌≡◌, refl}
+use mathlib.Core.Path.{◌≡◌}
 use lib.IntN.{ℤ}
 use Rattle.whole.specs.Whole.{min_ℤ, max_ℤ}
 

@@ -1,20 +1,19 @@
 -- What the definitions of this crate are, over ℤ: exact results, the nearest number of a width, the common divisor and multiple, the floored remainder.
 use mathlib.Core.Path.{◌≡◌, refl, sym, ◌∙◌}
-use mathlib.Core.Logic.{◌≢◌, ◌⊎◌, inl, inr}
-use Prim.Native.Nat.{ℕ, ◌*◌}
+use mathlib.Core.Logic.{◌≢◌, inl, inr}
+use Prim.Native.Nat.{ℕ}
 use lib.IntN.{ℤ, pos, nat_abs}
 use lib.Signed.{◌≤ℤ◌, ◌<ℤ◌}
 use lib.Pow.{pow_pos}
 use mir.Syntax.{Width, w64}
 use mir.Val.{SFits, hbits}
-use Rattle.whole.specs.Range.{least, greatest, fits?, clamp}
+use Rattle.whole.specs.Range.{least, greatest, clamp}
 use Rattle.whole.specs.Divides.{◌∣ℤ◌, steps, gcd, lcm, Cong, floor_rem}
 use Rattle.whole.specs.Exact.{exactly}
-use Rattle.whole.specs.declared.Exact.{Exact}
 use Rattle.whole.specs.declared.Exact.TheVariants.{Is, DoesNotFit}
 use Rattle.whole.proofs.Linear.{ints}
 use Rattle.whole.proofs.Fits as Fits
-use Rattle.whole.proofs.Decides.{Beyond, fits-test, is_true, is_false, is-fit, not_beyond}
+use Rattle.whole.proofs.Decides.{Beyond, fits-test, is_false, is-fit, not_beyond}
 use Rattle.whole.proofs.Products as Products
 use Rattle.whole.proofs.CommonDivisor as CommonDivisor
 use Rattle.whole.proofs.Floor as Floor

@@ -1,16 +1,16 @@
 -- The quotient toward zero and its remainder: x = q·d + r with |r| < |d| and r of x's sign, and nothing else is; the quotient rises with the dividend.
-use mathlib.Core.Path.{◌≡◌, refl, sym, ap, ◌∙◌, subst}
+use mathlib.Core.Path.{◌≡◌, refl, ap, ◌∙◌}
 use mathlib.Core.Logic.{◌≢◌, ◌⊎◌, inl, inr}
-use Prim.Native.Nat.{ℕ, zero, suc, ◌+◌, ◌*◌, ◌/◌, ◌%◌, ◌≤◌, ◌<◌}
+use Prim.Native.Nat.{ℕ, zero, suc, ◌*◌, ◌/◌, ◌%◌, ◌≤◌, ◌<◌}
 use native.Mathlib.Omega.{arith}
-use native.Mathlib.Nat.{div-add-mod', mod-lt, mod-le, zero-lt-suc, le_trans, div-mul-le_self, le-div_iff_mul-le, mul-le-mul_right, mul-le-mul_left, div-zero, zero-div, div-le_self, div-lt_self, lt_of_le_of_lt, mod-zero, mod-one, div-one}
-use lib.IntN.{ℤ, pos, negsuc, neg_ℤ, nat_abs, ◌+ℤ◌, ◌-ℤ◌, ◌*ℤ◌, *ℤ_comm}
+use native.Mathlib.Nat.{div-add-mod', mod-lt, mod-le, le_trans, div-mul-le_self, le-div_iff_mul-le, mul-le-mul_left, div-zero, zero-div, div-le_self, div-lt_self, lt_of_le_of_lt, mod-zero, mod-one, div-one}
+use lib.IntN.{ℤ, pos, negsuc, neg_ℤ, nat_abs, ◌+ℤ◌, ◌-ℤ◌, ◌*ℤ◌}
 use lib.Pow.{pow_pos}
 use lib.Signed.{◌≤ℤ◌, ◌<ℤ◌, quot_z, rem_z, mag_rem}
 use mir.Syntax.{Width}
 use mir.Val.{SFits, hbits}
-use Rattle.whole.specs.Whole.{up, dn, ◌⊖◌, min_ℤ, max_ℤ, min4, max4}
-use Rattle.whole.proofs.Linear.{ints, wholes, read, sum, sub, neg, abs, from-≢, split, least, greatest}
+use Rattle.whole.specs.Whole.{min_ℤ, max_ℤ, min4, max4}
+use Rattle.whole.proofs.Linear.{ints, wholes, sum, sub, neg, abs, from-≢, split, least, greatest}
 use Rattle.whole.proofs.Shapes.{lin}
 use Rattle.whole.proofs.Fits.{machine, range}
 use Rattle.whole.specs.Range as Range

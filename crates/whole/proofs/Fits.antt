@@ -1,9 +1,9 @@
 -- SFits w z is MIN ≤ z ≤ MAX, at every width; and the rules by which `omega` proves SFits itself, from `range` of those that it needs.
-use Prim.Native.Nat.{ℕ, zero, suc, ◌+◌, ◌-◌, ◌^◌, ◌≤◌, ◌<◌, max}
+use Prim.Native.Nat.{ℕ, suc, ◌+◌, ◌^◌, ◌≤◌, max}
 use mathlib.Core.Logic.{◌↔◌}
 use lib.Pow.{pow_pos}
 use lib.IntN.{ℤ, pos, negsuc, neg_ℤ, ◌+ℤ◌, ◌-ℤ◌}
-use lib.Signed.{◌≤ℤ◌, ◌<ℤ◌, mag}
+use lib.Signed.{◌≤ℤ◌}
 use mir.Syntax.{Width}
 use mir.Val.{SFits, hbits}
 use Rattle.whole.specs.Whole.{up, dn}

@@ -5,8 +5,7 @@ use mathlib.Core.Logic.{◌≢◌}
 use mathlib.Core.Bool.{Bool, true, false, not, ◌&&◌, ◌||◌}
 use Prim.Native.Nat.{ℕ, ◌<◌}
 use native.Mathlib.Nat.{pos_of_ne-zero}
-use native.Mathlib.Omega.{arith}
-use lib.IntN.{ℤ, pos, negsuc}
+use lib.IntN.{ℤ, pos}
 use lib.Dec.{eqb, lit<}
 use lib.Signed.{lt_z, le_z, ◌≤ℤ◌, ◌<ℤ◌}
 use mir.Syntax.{Width, w8, w16, w32, w64, w128}

@@ -1,23 +1,22 @@
 -- The floored remainder: it lies from 0 to |m| - 1, differs from x by a multiple of m, and is the only such number.
 use mathlib.Core.Path.{◌≡◌, refl, sym, ap, ◌∙◌, subst}
 use mathlib.Core.Logic.{◌≢◌}
-use Prim.Native.Nat.{ℕ, zero, suc, ◌%◌, ◌<◌}
+use Prim.Native.Nat.{ℕ, suc, ◌<◌}
 use native.Mathlib.Nat.{mod-one}
 use native.Mathlib.Omega.{arith}
 use lib.IntN.{ℤ, pos, negsuc, neg_ℤ, nat_abs, ◌+ℤ◌, ◌-ℤ◌, ◌*ℤ◌, zero-*ℤ}
 use lib.Signed.{◌≤ℤ◌, ◌<ℤ◌, rem_z, quot_z}
 use mir.Syntax.{Width}
 use mir.Val.{SFits}
-use Rattle.whole.specs.Test.{◌<?◌}
 use Rattle.whole.specs.Divides.{◌∣ℤ◌, Cong, floor_rem}
-use Rattle.whole.proofs.Linear.{ints, wholes, read, sum, sub, neg, abs, from-≢}
+use Rattle.whole.proofs.Linear.{ints, wholes, read, sum, sub, neg, abs}
 use Rattle.whole.proofs.Shapes.{lin}
 use Rattle.whole.proofs.Ring.{nat_abs-zero}
 use Rattle.whole.proofs.Decides.{lt_test, branch, is_true, is_false}
 use Rattle.whole.proofs.Fits.{machine, range}
 use Rattle.whole.proofs.Divide.{quot-rem, nat_abs-rem, rem-small, rem-zero, small-multiple}
-use Rattle.whole.proofs.Divides.{∣-refl, ∣-+, ∣-neg}
-use Rattle.whole.proofs.Congruence.{∣-at, ∣-nat_abs, Cong-trans, Cong-sym}
+use Rattle.whole.proofs.Divides.{∣-refl, ∣-+}
+use Rattle.whole.proofs.Congruence.{∣-at, Cong-trans, Cong-sym}
 
 -- ---- by the sign of the truncated remainder
 module _ (x m : ℤ) where

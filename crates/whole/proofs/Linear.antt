@@ -1,14 +1,14 @@
 -- The bridge from ℤ to `omega`. A number is read by its parts, z = up z − dn z, which are atoms of ℕ.
 --   omega (lin, sum (x +ℤ y) z)   `lin` (Shapes.antt) turns hypotheses and goals, `ints` those with no compound term; a fact for each deeper term
 --   rw (read x, read y) (simp wholes (omega arith))   a lemma over x and y, hypotheses unbound: its terms, products too, come to ⊖
-use mathlib.Core.Path.{◌≡◌, refl, sym, ap, ◌∙◌, subst}
+use mathlib.Core.Path.{◌≡◌, refl, ap}
 use mathlib.Core.Logic.{◌≢◌, ◌↔◌, ◌⊎◌, inl, inr}
 use mathlib.Core.Bool.{Bool, true, false, not, cond}
 use Prim.Native.Nat.{ℕ, zero, suc, ◌+◌, ◌-◌, ◌*◌, ◌≤◌, ◌<◌, min, max}
 use native.Mathlib.Omega.{arith}
-use lib.Dec.{T, ltb, leb, leb→le, le→leb, ltb→lt, lt→ltb, nltb→le, T_not}
+use lib.Dec.{T, ltb, leb→le, le→leb, ltb→lt, lt→ltb, nltb→le, T_not}
 use lib.IntN.{ℤ, pos, negsuc, suc_ℤ, pred_ℤ, neg_ℤ, nat_abs, sub_ℕ, ◌+ℤ◌, ◌-ℤ◌, ◌*ℤ◌}
-use lib.Signed.{◌≤ℤ◌, ◌<ℤ◌, le_z, lt_z, le_z_yes, lt_z_yes}
+use lib.Signed.{◌≤ℤ◌, ◌<ℤ◌, le_z, lt_z, le_z_yes}
 use Rattle.whole.specs.Choice.{pick}
 use Rattle.whole.specs.Test.{◌≤?◌}
 use Rattle.whole.specs.Whole.{up, dn, ◌⊖◌, min_ℤ, max_ℤ}

@@ -1,24 +1,24 @@
 -- Products and saturated results: the test by magnitudes before a product is made, and the end that a result which doesn't fit lies beyond.
-use mathlib.Core.Path.{◌≡◌, refl, sym, ap, ◌∙◌}
-use mathlib.Core.Logic.{◌≢◌, ◌⊎◌, inl, inr}
-use mathlib.Core.Bool.{Bool, true, false}
-use Prim.Native.Nat.{ℕ, zero, suc, ◌≤◌, ◌<◌, ◌+◌, ◌-◌, ◌*◌, ◌/◌, ◌^◌}
+use mathlib.Core.Path.{◌≡◌, refl, sym}
+use mathlib.Core.Logic.{◌≢◌, inl, inr}
+use mathlib.Core.Bool.{true, false}
+use Prim.Native.Nat.{ℕ, ◌≤◌, ◌<◌, ◌-◌, ◌*◌, ◌/◌, ◌^◌}
 use native.Mathlib.Nat.{le-div_iff_mul-le, div-lt_iff_lt-mul}
 use native.Mathlib.Omega.{arith}
 use lib.Dec.{leb, ltb}
-use lib.IntN.{ℤ, pos, negsuc, nat_abs, ◌+ℤ◌, ◌-ℤ◌, ◌*ℤ◌}
+use lib.IntN.{ℤ, pos, nat_abs, ◌+ℤ◌, ◌-ℤ◌, ◌*ℤ◌}
 use lib.Signed.{◌≤ℤ◌, ◌<ℤ◌}
 use lib.Pow.{pow_pos}
 use mir.Syntax.{Width, w64}
 use mir.Val.{SFits, hbits}
-use Rattle.whole.specs.Test.{◌≤?◌, ◌<?◌}
+use Rattle.whole.specs.Test.{◌<?◌}
 use Rattle.whole.specs.Whole.{min_ℤ, max_ℤ}
 use Rattle.whole.specs.Range.{least, greatest, fits?, clamp, limit_of}
 use Rattle.whole.proofs.Linear.{ints, abs, sum, sub}
 use Rattle.whole.proofs.Shapes.{lin}
 use Rattle.whole.proofs.Ring.{mul-nonneg, mul-nonpos-l, mul-nonpos-r, mul-nonneg-neg, nat_abs-*ℤ}
 use Rattle.whole.proofs.Fits.{machine, range}
-use Rattle.whole.proofs.Decides.{Beyond, Decides, leb-test, ltb-test, le_test, lt_test, branch, fits-test, same_test, yes, no, is_true, is_false, is-fit, not_beyond}
+use Rattle.whole.proofs.Decides.{Beyond, leb-test, ltb-test, le_test, lt_test, branch, fits-test, same_test, yes, no, is_true, is_false, is-fit, not_beyond}
 
 -- ---- a magnitude that is beyond limit / b
 pub beyond : (a b limit : ℕ) → b ≢ 0 → ltb (limit / b) a ≡ ltb limit (a * b)

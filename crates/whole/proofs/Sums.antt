@@ -1,21 +1,20 @@
 -- The needs of sums, differences, negations and products, for `search`: `results` is handed to it beside `flags`.
 -- A result that was asked for before it was made fits; a result of two locals is that of the numbers which they hold.
-use mathlib.Core.Path.{◌≡◌, refl, sym, ap, ◌∙◌}
-use mathlib.Core.Logic.{◌≢◌, ◌⊎◌, inl, inr}
-use mathlib.Core.Bool.{Bool, true, false, not}
-use lib.IntN.{ℤ, pos, negsuc, neg_ℤ, ◌+ℤ◌, ◌-ℤ◌, ◌*ℤ◌, +ℤ_idl}
+use mathlib.Core.Path.{◌≡◌, sym, ◌∙◌}
+use mathlib.Core.Logic.{◌≢◌, inl, inr}
+use mathlib.Core.Bool.{Bool, true, not}
+use lib.IntN.{ℤ, pos, neg_ℤ, ◌+ℤ◌, ◌-ℤ◌, ◌*ℤ◌, +ℤ_idl}
 use lib.Signed.{◌≤ℤ◌, ◌<ℤ◌}
 use lib.Pow.{pow_pos}
-use mir.Syntax.{Width, w64}
+use mir.Syntax.{Width}
 use mir.Val.{SFits, to_z, of_z, hbits}
 use mir.Facts.{to_z-of_z}
-use Rattle.whole.specs.Choice.{pick}
-use Rattle.whole.specs.Test.{◌≤?◌, ◌<?◌, ◌≟◌}
-use Rattle.whole.specs.Range.{least, greatest, fits?, clamp}
-use Rattle.whole.proofs.Linear.{ints, neg, sum, sub}
+use Rattle.whole.specs.Test.{◌≤?◌, ◌≟◌}
+use Rattle.whole.specs.Range.{least, greatest, fits?}
+use Rattle.whole.proofs.Linear.{neg, sum, sub}
 use Rattle.whole.proofs.Shapes.{lin}
-use Rattle.whole.proofs.Fits.{machine, range, low, high}
-use Rattle.whole.proofs.Decides.{Beyond, le_test, lt_test, eq_test, fits-test, same_test, yes, no, is_true, is_false, isn't, not_beyond}
+use Rattle.whole.proofs.Fits.{machine, range}
+use Rattle.whole.proofs.Decides.{Beyond, le_test, eq_test, fits-test, same_test, yes, isn't}
 
 -- ---- the test before the result
 pub fit-need : (w : Width) (r : Bool) (z : ℤ) → r ≡ fits? w z → r ≡ true → SFits w z

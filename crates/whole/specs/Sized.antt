@@ -1,5 +1,4 @@
 -- The widths that panels have, and an exact number held to one of them.
-use Rattle.std.specs.Prelude.{ℤ}
 use Rattle.std.specs.Int.{Width, w16, w32, w64}
 use Rattle.whole.specs.Exact.{exactly}
 use Rattle.whole.specs.declared.Size.{Size}

@@ -9,33 +9,33 @@ use Rattle.sheet.specs.Step.{Step}
 use Rattle.sheet.specs.Sheet.{steps_from, steps_in, parse, flat}
 use Rattle.sheet.specs.Found.{number_found, check_found}
 use Rattle.sheet.proofs.Parts.{steps-length, parse-count, parse-many, parse-refused, refused-of, read-refused, no_room, room}
-use Rattle.sheet.proofs.read.Tie as tie
 use Rattle.sheet.proofs.read.Goals as goal
+use Rattle.sheet.proofs.read.Goals.{After-check_steps, In-Fine}
 
 -- after the count: the sheet is its steps
-abbrev S : tie.After-check_steps → List ℕ
+abbrev S : After-check_steps → List ℕ
 S k = k.before.before.before.before.before.before.before.args.bytes.now
 
-abbrev O : tie.After-check_steps → List ℤ
+abbrev O : After-check_steps → List ℤ
 O k = k.before.before.before.before.before.before.before.args.out.now
 
-abbrev N : tie.After-check_steps → ℕ
+abbrev N : After-check_steps → ℕ
 N k = k.before.before.before.n.given.0.0
 
-abbrev P : tie.After-check_steps → ℕ
+abbrev P : After-check_steps → ℕ
 P k = k.before.before.before.n.given.0.1.0
 
-counted : (k : tie.After-check_steps) → parse (S k) ≡ steps_from (N k) (S k) 0 (P k)
+counted : (k : After-check_steps) → parse (S k) ≡ steps_from (N k) (S k) 0 (P k)
 counted k = parse-count (S k) (N k) (P k) (sym k.first_number.ensures ∙ ap number_found k.in-Value.is) k.if-n-gt256.false
 
 -- where the steps are right
-right : (t : tie.In-Fine) → verdict_of (steps_from (N t.before.before) (S t.before.before) 0 (P t.before.before)) ≡ fine
+right : (t : In-Fine) → verdict_of (steps_from (N t.before.before) (S t.before.before) 0 (P t.before.before)) ≡ fine
 right t = sym t.check_steps.ensures ∙ ap check_found t.in-Fine.is
 
-right' : (t : tie.In-Fine) → verdict_of (parse (S t.before.before)) ≡ fine
+right' : (t : In-Fine) → verdict_of (parse (S t.before.before)) ≡ fine
 right' t = rw (counted t.before.before) (right t)
 
-long : (t : tie.In-Fine) → length (steps_in (parse (S t.before.before))) ≡ N t.before.before
+long : (t : In-Fine) → length (steps_in (parse (S t.before.before))) ≡ N t.before.before
 long t = rw (counted t.before.before) (steps-length (N t.before.before) (S t.before.before) 0 (P t.before.before) (right t))
 
 pub returns-then-n-gt256 : goal.returns-then-n-gt256

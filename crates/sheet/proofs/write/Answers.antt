@@ -10,29 +10,29 @@ use native.Mathlib.Omega.{arith}
 use mathlib.Core.List.{List}
 use mathlib.Core.Path.{◌≡◌, sym, ap, ◌∙◌}
 use Prim.Native.Nat.{ℕ, ◌+◌, ◌/◌}
-use Rattle.sheet.proofs.write.Tie as tie
 use Rattle.sheet.proofs.write.Goals as goal
+use Rattle.sheet.proofs.write.Goals.{After-listed_width, Else-n-gt256, In-Fine, Start}
 
 -- where the list is even, short enough and right
-abbrev start : tie.Else-n-gt256 → tie.Start
+abbrev start : Else-n-gt256 → Start
 start w = w.before.before.before
 
-abbrev L : tie.Else-n-gt256 → List ℤ
+abbrev L : Else-n-gt256 → List ℤ
 L w = (start w).args.steps.now
 
-abbrev O : tie.Else-n-gt256 → List ℕ
+abbrev O : Else-n-gt256 → List ℕ
 O w = (start w).args.out.now
 
-right : (t : tie.In-Fine) → steps_fault 0 (steps_of (L t.before.before.before)) ≡ fine
+right : (t : In-Fine) → steps_fault 0 (steps_of (L t.before.before.before)) ≡ fine
 right t = sym t.check_listed.ensures ∙ ap check_found t.in-Fine.is
 
-abbrev fine_at : tie.After-listed_width → tie.In-Fine
+abbrev fine_at : After-listed_width → In-Fine
 fine_at w = w.before.before
 
-abbrev else : tie.After-listed_width → tie.Else-n-gt256
+abbrev else : After-listed_width → Else-n-gt256
 else w = (fine_at w).before.before.before
 
-sized : (w : tie.After-listed_width) → w.width.result + w.listed_width.result ≡ length (bytes_of (steps_of (L (else w))))
+sized : (w : After-listed_width) → w.width.result + w.listed_width.result ≡ length (bytes_of (steps_of (L (else w))))
 sized w =
     let l = L (else w) in
     let e = else w in

@@ -5,13 +5,13 @@ use Rattle.whole.specs.Test.{◌≤?◌}
 use Rattle.whole.proofs.Fits.{zero-fits}
 use Rattle.whole.proofs.Flags.{le-true, le-false}
 use Rattle.whole.proofs.Sums.{room-above, room-below, add-above, add-below}
-use Rattle.whole.proofs.add_fits.Tie as tie
 use Rattle.whole.proofs.add_fits.Goals as goal
+use Rattle.whole.proofs.add_fits.Goals.{Else-y-ge0, Then-y-ge0}
 
-above : (c : tie.Then-y-ge0) → pos 0 ≤ℤ c.args.y
+above : (c : Then-y-ge0) → pos 0 ≤ℤ c.args.y
 above c = le-true zero-fits c.ranges.y c.if-y-ge0.true
 
-below : (c : tie.Else-y-ge0) → c.args.y <ℤ pos 0
+below : (c : Else-y-ge0) → c.args.y <ℤ pos 0
 below c = le-false zero-fits c.ranges.y c.if-y-ge0.false
 
 pub overflow_sub-result : goal.overflow_sub-result

@@ -9,13 +9,13 @@ use Rattle.whole.proofs.Fits.{zero-fits, ones-fits}
 use Rattle.whole.proofs.Flags.{eq-false, eq-true, divisor}
 use Rattle.whole.specs.Exact.{exactly}
 use Rattle.whole.proofs.Divide.{quot-zero, quot-minus}
-use Rattle.whole.proofs.exact_quotient.Tie as tie
 use Rattle.whole.proofs.exact_quotient.Goals as goal
+use Rattle.whole.proofs.exact_quotient.Goals.{Else-d-eq0, Else-d-eqminus1}
 
-nonzero : (c : tie.Else-d-eq0) → c.args.d ≢ pos 0
+nonzero : (c : Else-d-eq0) → c.args.d ≢ pos 0
 nonzero c = eq-false {w = w64} c.ranges.d zero-fits c.if-d-eq0.false
 
-other : (c : tie.Else-d-eqminus1) → c.args.d ≢ negsuc 0
+other : (c : Else-d-eqminus1) → c.args.d ≢ negsuc 0
 other c = eq-false {w = w64} c.ranges.d ones-fits c.if-d-eqminus1.false
 
 pub returns-then-d-eq0 : goal.returns-then-d-eq0

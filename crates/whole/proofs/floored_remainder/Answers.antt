@@ -10,17 +10,17 @@ use Rattle.whole.proofs.Fits.{zero-fits, ones-fits}
 use Rattle.whole.proofs.Flags.{le-true, le-false, lt-true, lt-false, eq-true, eq-false, divisor}
 use Rattle.whole.proofs.Divide.{fits-quot, fits-rem}
 use Rattle.whole.proofs.Floor.{floor-zero, floor-one, floor-up, floor-add, floor-add-fits, floor-sub, floor-sub-fits}
-use Rattle.whole.proofs.floored_remainder.Tie as tie
 use Rattle.whole.proofs.floored_remainder.Goals as goal
+use Rattle.whole.proofs.floored_remainder.Goals.{Else-m-eqminus1, Else-m-gt0, Else-r-ge0}
 
 -- what is known where the remainder was taken
-nonzero : (c : tie.Else-m-eqminus1) → c.args.m ≢ pos 0
+nonzero : (c : Else-m-eqminus1) → c.args.m ≢ pos 0
 nonzero c = eq-false {w = w64} c.ranges.m zero-fits c.if-m-eq0.false
 
-other : (c : tie.Else-m-eqminus1) → c.args.m ≢ negsuc 0
+other : (c : Else-m-eqminus1) → c.args.m ≢ negsuc 0
 other c = eq-false {w = w64} c.ranges.m ones-fits c.if-m-eqminus1.false
 
-negative : (c : tie.Else-r-ge0) → rem_z c.args.x c.args.m <ℤ pos 0
+negative : (c : Else-r-ge0) → rem_z c.args.x c.args.m <ℤ pos 0
 negative c =
     let f = c.ranges in
     let r = fits-rem {w = w64} c.args.m f.x in
@@ -46,7 +46,7 @@ overflow_add-result c =
     let h : pos 0 <ℤ c.args.m = lt-true zero-fits f.m c.if-m-gt0.true in
     simp (to_z-of_z f.x, to_z-of_z f.m, to_z-of_z r) (floor-add-fits c.args.x c.args.m f.m (negative c.before) (nonzero c.before.before) h)
 
-below : (c : tie.Else-m-gt0) → c.args.m <ℤ pos 0
+below : (c : Else-m-gt0) → c.args.m <ℤ pos 0
 below c =
     let f = c.ranges in
     let h = lt-false zero-fits f.m c.if-m-gt0.false in

@@ -7,8 +7,8 @@ use borrow.Author.Tests.{leb-true, leb-false}
 use Rattle.whole.specs.Exact.{exactly}
 use Rattle.whole.proofs.CommonDivisor.{lcm-zero, lcm-is}
 use Rattle.whole.proofs.Products.{natural-fits, natural-over}
-use Rattle.whole.proofs.lcm_u64.Tie as tie
 use Rattle.whole.proofs.lcm_u64.Goals as goal
+use Rattle.whole.proofs.lcm_u64.Goals.{Then-product_within}
 
 -- The product a / g * b is the lcm, and is asked for before it is made.
 
@@ -17,7 +17,7 @@ unfolding exactly
 returns-then-g-eq0 c =
     rw (lcm-zero c.args.a c.args.b (sym c.gcd_u64-g.ensures ∙ c.if-g-eq0.true), natural-fits w64 0 (omega arith))
 
-small : (c : tie.Then-product_within) → c.args.a / c.gcd_u64-g.result * c.args.b ≤ 9223372036854775807
+small : (c : Then-product_within) → c.args.a / c.gcd_u64-g.result * c.args.b ≤ 9223372036854775807
 small c = leb-true _ _ (sym c.product_within.ensures ∙ c.if-product_within.true)
 
 pub overflow_mul-result : goal.overflow_mul-result

@@ -3,13 +3,13 @@ use native.Mathlib.Numerals.{add-one}
 use mir.Syntax.{w64}
 use mir.ValLaws.{to_z_pos}
 use Rattle.whole.proofs.Bits.{Negative, Natural, negative, natural, flipped}
-use Rattle.whole.proofs.magnitude.Tie as tie
 use Rattle.whole.proofs.magnitude.Goals as goal
+use Rattle.whole.proofs.magnitude.Goals.{Else-x-lt0, Then-x-lt0}
 
-minus : (c : tie.Then-x-lt0) → Negative c.args.x
+minus : (c : Then-x-lt0) → Negative c.args.x
 minus c = negative c.args.x c.ranges.x c.if-x-lt0.true
 
-plus : (c : tie.Else-x-lt0) → Natural c.args.x
+plus : (c : Else-x-lt0) → Natural c.args.x
 plus c = natural c.args.x c.ranges.x c.if-x-lt0.false
 
 pub overflow_cast-result : goal.overflow_cast-result

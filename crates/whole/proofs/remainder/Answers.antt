@@ -7,13 +7,13 @@ use Rattle.whole.proofs.Divide.{fits-quot, fits-rem}
 use Rattle.whole.proofs.Fits.{zero-fits, ones-fits}
 use Rattle.whole.proofs.Flags.{eq-false, eq-true, divisor}
 use Rattle.whole.proofs.Divide.{rem-zero, rem-minus}
-use Rattle.whole.proofs.remainder.Tie as tie
 use Rattle.whole.proofs.remainder.Goals as goal
+use Rattle.whole.proofs.remainder.Goals.{Else-m-eq0, Else-m-eqminus1}
 
-nonzero : (c : tie.Else-m-eq0) → c.args.m ≢ pos 0
+nonzero : (c : Else-m-eq0) → c.args.m ≢ pos 0
 nonzero c = eq-false {w = w64} c.ranges.m zero-fits c.if-m-eq0.false
 
-other : (c : tie.Else-m-eqminus1) → c.args.m ≢ negsuc 0
+other : (c : Else-m-eqminus1) → c.args.m ≢ negsuc 0
 other c = eq-false {w = w64} c.ranges.m ones-fits c.if-m-eqminus1.false
 
 pub returns-then-m-eq0 : goal.returns-then-m-eq0

@@ -19,48 +19,48 @@ use Rattle.congruence.proofs.Values.{values, built}
 use Rattle.congruence.specs.Mended.{found}
 use Rattle.congruence.specs.Numbers.{alike?}
 use Rattle.congruence.specs.Set.{cong}
-use Rattle.congruence.proofs.residue.overlap.Tie as tie
 use Rattle.congruence.proofs.residue.overlap.Goals as goal
+use Rattle.congruence.proofs.residue.overlap.Goals.{After-alike, After-lcm, After-magnitude-q, Else-l-eq0, Else-not-alike, Start}
 
-abbrev start : tie.After-alike → tie.Start
+abbrev start : After-alike → Start
 start d = d.before.before.before.before
 
-abbrev wide : tie.Start → Width
+abbrev wide : Start → Width
 wide s = width_of s.args.size
 
-p-is : (d : tie.After-magnitude-q) → d.magnitude-p.result ≡ nat_abs d.args.m
+p-is : (d : After-magnitude-q) → d.magnitude-p.result ≡ nat_abs d.args.m
 p-is d = simp (to_z-of_z d.ranges.m) at d.magnitude-p.ensures
 
-q-is : (d : tie.After-magnitude-q) → d.magnitude-q.result ≡ nat_abs d.args.n
+q-is : (d : After-magnitude-q) → d.magnitude-q.result ≡ nat_abs d.args.n
 q-is d = simp (to_z-of_z d.ranges.n) at d.magnitude-q.ensures
 
-alike_is : (d : tie.After-alike) → d.alike.result ≡ alike? (gcd (nat_abs (start d).args.m) (nat_abs (start d).args.n)) (start d).args.c (start d).args.e
+alike_is : (d : After-alike) → d.alike.result ≡ alike? (gcd (nat_abs (start d).args.m) (nat_abs (start d).args.n)) (start d).args.c (start d).args.e
 alike_is d =
     let s = start d in
     let m2 = d.before.before in
     alike-call s.args.c s.args.e _ _ _ d.alike.ensures (d.gcd_u64.ensures ∙ ap₂ gcd (p-is m2) (q-is m2)) s.fits.c s.fits.e
 
-agree : (d : tie.Else-not-alike) → Cong (gcd (nat_abs (start d.before).args.m) (nat_abs (start d.before).args.n)) (start d.before).args.c (start d.before).args.e
+agree : (d : Else-not-alike) → Cong (gcd (nat_abs (start d.before).args.m) (nat_abs (start d.before).args.n)) (start d.before).args.c (start d.before).args.e
 agree d = yes (alike-test _ _ _) (was-true (alike_is d.before) d.if-not-alike.false)
 
-lcm-found : (d : tie.After-lcm) → d.lcm.result ≡ exactly (wide (start d.before.before)) (pos (lcm (nat_abs (start d.before.before).args.m) (nat_abs (start d.before.before).args.n)))
+lcm-found : (d : After-lcm) → d.lcm.result ≡ exactly (wide (start d.before.before)) (pos (lcm (nat_abs (start d.before.before).args.m) (nat_abs (start d.before.before).args.n)))
 lcm-found d = let m2 = d.before.before.before.before in d.lcm.ensures ∙ ap₂ (λ x y. exactly (wide (start d.before.before)) (pos (lcm x y))) (p-is m2) (q-is m2)
 
 -- the lcm that was found
-abbrev found_at : tie.Else-l-eq0 → ℕ
+abbrev found_at : Else-l-eq0 → ℕ
 found_at c = let s = start c.before.before.before.before.before.before in lcm (nat_abs s.args.m) (nat_abs s.args.n)
 
-found-l : (c : tie.Else-l-eq0) → c.in-Is.l ≡ pos (found_at c)
+found-l : (c : Else-l-eq0) → c.in-Is.l ≡ pos (found_at c)
 found-l c = let d = c.before.before.before.before in found-is (wide (start d.before.before)) (pos (found_at c)) c.in-Is.l (sym (lcm-found d) ∙ c.in-Is.is)
 
-some : (c : tie.Else-l-eq0) → 0 < found_at c
+some : (c : Else-l-eq0) → 0 < found_at c
 some c =
     let k : SFits w64 c.in-Is.l = search values in
     let f = eq-false k zero-fits c.if-l-eq0.false in
     let e = found-l c in
     omega (ints, from-≢ f)
 
-small : (c : tie.Else-l-eq0) → found_at c < 9223372036854775808
+small : (c : Else-l-eq0) → found_at c < 9223372036854775808
 small c =
     let k : SFits w64 c.in-Is.l = search values in
     let e = found-l c in

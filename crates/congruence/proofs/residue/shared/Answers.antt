@@ -7,10 +7,10 @@ use Rattle.whole.proofs.Congruence.{Cong-trans, Cong-sym}
 use Rattle.whole.proofs.Divides.{∣-trans}
 use Rattle.whole.specs.Divides.{lcm}
 use Rattle.congruence.proofs.Classes.{lcm-pos, divisor-most}
-use Rattle.congruence.proofs.residue.shared.Tie as tie
 use Rattle.congruence.proofs.residue.shared.Goals as goal
+use Rattle.congruence.proofs.residue.shared.Goals.{Start}
 
-lcm-some : (c : tie.Start) → 0 < lcm c.args.p c.args.q
+lcm-some : (c : Start) → 0 < lcm c.args.p c.args.q
 lcm-some c = lcm-pos c.args.p c.args.q c.requires.0 c.requires.1
 
 pub rest-x-requires : goal.rest-x-requires

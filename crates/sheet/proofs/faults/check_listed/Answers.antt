@@ -9,14 +9,14 @@ use native.Mathlib.Omega.{arith}
 use mathlib.Core.Path.{◌≡◌, refl, sym, ap, ◌∙◌}
 use Prim.Native.Nat.{◌+◌, ◌-◌, ◌*◌}
 use borrow.Author.Rules.{rules}
-use Rattle.sheet.proofs.faults.check_listed.Tie as tie
 use Rattle.sheet.proofs.faults.check_listed.Goals as goal
+use Rattle.sheet.proofs.faults.check_listed.Goals.{After-step_fault, In-loop-k}
 
 -- the four numbers of a turn, and what is wrong with them
-abbrev looping : tie.After-step_fault invariant-loop decreases-loop → tie.In-loop-k invariant-loop decreases-loop
+abbrev looping : After-step_fault invariant-loop decreases-loop → In-loop-k invariant-loop decreases-loop
 looping w = w.before.before.before.before.before
 
-found : (w : tie.After-step_fault invariant-loop decreases-loop) → fault_found w.step_fault.result ≡ step_fault (looping w).before.loop.k (fourth (looping w).before.before.args.steps.now (looping w).before.loop.k)
+found : (w : After-step_fault invariant-loop decreases-loop) → fault_found w.step_fault.result ≡ step_fault (looping w).before.loop.k (fourth (looping w).before.before.args.steps.now (looping w).before.loop.k)
 found w =
     let l = (looping w).before.before.args.steps.now in
     let i = (looping w).before.loop.k * 4 in

@@ -5,21 +5,21 @@ use Rattle.sheet.proofs.Groups.{too_many, ended, group-bits, code-too-large, cod
 use native.Mathlib.Omega.{arith}
 use borrow.Author.Rules.{rules}
 use Rattle.sheet.specs.Number.{read_number}
-use Rattle.sheet.proofs.number.read_number.Tie as tie
 use Rattle.sheet.proofs.number.read_number.Goals as goal
+use Rattle.sheet.proofs.number.read_number.Goals.{After-wide-b, At-loop-shift}
 
 pub loop-shift-init : goal.loop-shift-init
 unfolding read_number
 loop-shift-init c = (search rules, search rules, search rules, refl)
 
 -- what a turn knows of the byte at i, whose number is `wide`'s result
-abbrev looping : tie.After-wide-b invariant-loop decreases-loop → tie.At-loop-shift invariant-loop decreases-loop
+abbrev looping : After-wide-b invariant-loop decreases-loop → At-loop-shift invariant-loop decreases-loop
 looping w = w.before.before.before.before
 
-byte : (w : tie.After-wide-b invariant-loop decreases-loop) → w.wide-b.result ≡ get_or (looping w).before.before.args.s.now (looping w).loop.i 0
+byte : (w : After-wide-b invariant-loop decreases-loop) → w.wide-b.result ≡ get_or (looping w).before.before.args.s.now (looping w).loop.i 0
 byte w = w.wide-b.ensures
 
-byte_fits : (w : tie.After-wide-b invariant-loop decreases-loop) → w.wide-b.result < 256
+byte_fits : (w : After-wide-b invariant-loop decreases-loop) → w.wide-b.result < 256
 byte_fits w = omega (arith, w.shared_slice_known-in-loop-shift-1.given (looping w).loop.i, byte w)
 
 pub loop-shift-preserved : goal.loop-shift-preserved

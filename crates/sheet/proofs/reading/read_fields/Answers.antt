@@ -9,29 +9,29 @@ use Rattle.sheet.specs.Field.{field_at}
 use Rattle.sheet.specs.Step.{fields_at}
 use Rattle.sheet.specs.Found.{field_found}
 use borrow.Author.Rules.{rules}
-use Rattle.sheet.proofs.reading.read_fields.Tie as tie
 use Rattle.sheet.proofs.reading.read_fields.Goals as goal
+use Rattle.sheet.proofs.reading.read_fields.Goals.{After-read_field, After-read_field-in-Field, After-read_field-in-Field-read_field, Start}
 
 -- what the three calls found
-abbrev start : tie.After-read_field → tie.Start
+abbrev start : After-read_field → Start
 start w = w.before.before.before
 
-abbrev start-2 : tie.After-read_field-in-Field → tie.Start
+abbrev start-2 : After-read_field-in-Field → Start
 start-2 w = start w.before.before.before.before.before
 
-abbrev start-3 : tie.After-read_field-in-Field-read_field → tie.Start
+abbrev start-3 : After-read_field-in-Field-read_field → Start
 start-3 w = start-2 w.before.before.before.before.before
 
-first_read : (w : tie.After-read_field) → field_at (first (start w).args.f) (start w).args.s.now (start w).args.p (start w).args.k (pos 0) ≡ field_found w.read_field.result
+first_read : (w : After-read_field) → field_at (first (start w).args.f) (start w).args.s.now (start w).args.p (start w).args.k (pos 0) ≡ field_found w.read_field.result
 first_read w = sym (rw w.first.ensures at w.read_field.ensures)
 
-second-read : (w : tie.After-read_field-in-Field) → field_at (second (start-2 w).args.f) (start-2 w).args.s.now w.in-Field.q (start-2 w).args.k w.in-Field.x ≡ field_found w.read_field-in-Field.result
+second-read : (w : After-read_field-in-Field) → field_at (second (start-2 w).args.f) (start-2 w).args.s.now w.in-Field.q (start-2 w).args.k w.in-Field.x ≡ field_found w.read_field-in-Field.result
 second-read w =
     let x = w.in-Field.x in
     let e : to_z w64 (of_z w64 x) ≡ x = search rules in
     sym (rw (w.second.ensures, e) at w.read_field-in-Field.ensures)
 
-third-read : (w : tie.After-read_field-in-Field-read_field) → field_at (third (start-3 w).args.f) (start-3 w).args.s.now w.in-Field-read_field.t (start-3 w).args.k w.in-Field.x ≡ field_found w.read_field-in-Field-read_field.result
+third-read : (w : After-read_field-in-Field-read_field) → field_at (third (start-3 w).args.f) (start-3 w).args.s.now w.in-Field-read_field.t (start-3 w).args.k w.in-Field.x ≡ field_found w.read_field-in-Field-read_field.result
 third-read w =
     let x = w.in-Field.x in
     let e : to_z w64 (of_z w64 x) ≡ x = search rules in

@@ -5,13 +5,13 @@ use lib.Bits.{or_shifted}
 use mir.Syntax.{w64}
 use mir.ValLaws.{to_z_pos}
 use Rattle.whole.proofs.Bits.{Negative, Natural, negative, natural, flipped}
-use Rattle.sheet.proofs.signed.fold.Tie as tie
 use Rattle.sheet.proofs.signed.fold.Goals as goal
+use Rattle.sheet.proofs.signed.fold.Goals.{Else-n-lt0, Then-n-lt0}
 
-minus : (c : tie.Then-n-lt0) → Negative c.args.n
+minus : (c : Then-n-lt0) → Negative c.args.n
 minus c = negative c.args.n c.ranges.n c.if-n-lt0.true
 
-plus : (c : tie.Else-n-lt0) → Natural c.args.n
+plus : (c : Else-n-lt0) → Natural c.args.n
 plus c = natural c.args.n c.ranges.n c.if-n-lt0.false
 
 pub overflow_cast-result : goal.overflow_cast-result

@@ -12,17 +12,17 @@ use mathlib.Core.List.{◌++◌}
 use mathlib.Core.Path.{◌≡◌, refl, sym, ap, ◌∙◌}
 use Prim.Native.Nat.{◌+◌, ◌-◌, ◌*◌}
 use borrow.Author.Rules.{rules}
-use Rattle.sheet.proofs.writing.fill_listed.Tie as tie
 use Rattle.sheet.proofs.writing.fill_listed.Goals as goal
+use Rattle.sheet.proofs.writing.fill_listed.Goals.{After-fill_step-arg-in-loop-k-4-1, In-loop-k, Start}
 
 -- the four numbers of a turn, as they are handed on
-abbrev looping : tie.After-fill_step-arg-in-loop-k-4-1 invariant-loop decreases-loop → tie.In-loop-k invariant-loop decreases-loop
+abbrev looping : After-fill_step-arg-in-loop-k-4-1 invariant-loop decreases-loop → In-loop-k invariant-loop decreases-loop
 looping w = w.before.before.before.before.before
 
-abbrev start : tie.After-fill_step-arg-in-loop-k-4-1 invariant-loop decreases-loop → tie.Start invariant-loop decreases-loop
+abbrev start : After-fill_step-arg-in-loop-k-4-1 invariant-loop decreases-loop → Start invariant-loop decreases-loop
 start w = (looping w).before.before.before
 
-same : (w : tie.After-fill_step-arg-in-loop-k-4-1 invariant-loop decreases-loop) →
+same : (w : After-fill_step-arg-in-loop-k-4-1 invariant-loop decreases-loop) →
     (to_z w64 (of_z w64 (get_or (start w).args.steps.now ((looping w).before.loop.k * 4) (pos 0))) ≡ get_or (start w).args.steps.now ((looping w).before.loop.k * 4) (pos 0))
     × (to_z w64 (of_z w64 (get_or (start w).args.steps.now ((looping w).before.loop.k * 4 + 1) (pos 0))) ≡ get_or (start w).args.steps.now ((looping w).before.loop.k * 4 + 1) (pos 0))
     × (to_z w64 (of_z w64 (get_or (start w).args.steps.now ((looping w).before.loop.k * 4 + 2) (pos 0))) ≡ get_or (start w).args.steps.now ((looping w).before.loop.k * 4 + 2) (pos 0))
@@ -35,7 +35,7 @@ same w = (
 )
 
 -- the bytes of a turn, and those that are left
-more : (w : tie.After-fill_step-arg-in-loop-k-4-1 invariant-loop decreases-loop) → steps_bytes (steps_of (drop ((looping w).before.loop.k * 4) (start w).args.steps.now)) ≡ step_bytes (fourth (start w).args.steps.now (looping w).before.loop.k) ++ steps_bytes (steps_of (drop (((looping w).before.loop.k + 1) * 4) (start w).args.steps.now))
+more : (w : After-fill_step-arg-in-loop-k-4-1 invariant-loop decreases-loop) → steps_bytes (steps_of (drop ((looping w).before.loop.k * 4) (start w).args.steps.now)) ≡ step_bytes (fourth (start w).args.steps.now (looping w).before.loop.k) ++ steps_bytes (steps_of (drop (((looping w).before.loop.k + 1) * 4) (start w).args.steps.now))
 more w = bytes_next (start w).args.steps.now (start w).args.n (looping w).before.loop.k (start w).requires.1 (looping w).loop-test.true
 
 pub loop-k-init : goal.loop-k-init

@@ -7,8 +7,8 @@ use borrow.Author.Rules.{rules}
 use lib.ListN.{length, length-set}
 use Rattle.sheet.specs.Number.{write_number, groups_of}
 use Rattle.sheet.proofs.Written.{not-tenth, shorter, groups-last, groups-more, top_set}
-use Rattle.sheet.proofs.writing.fill_number.Tie as tie
 use Rattle.sheet.proofs.writing.fill_number.Goals as goal
+use Rattle.sheet.proofs.writing.fill_number.Goals.{In-loop-m}
 
 pub loop-m-init : goal.loop-m-init
 unfolding write_number
@@ -16,15 +16,15 @@ loop-m-init c =
     let e : c.args.at - c.args.at ≡ 0 = omega arith in
     (search rules, search rules, rw e (search rules), refl, rw e c.requires, rw e, rw e)
 
-not_last : (c : tie.In-loop-m invariant-loop decreases-loop) → c.loop-m.i - c.args.at < 9
+not_last : (c : In-loop-m invariant-loop decreases-loop) → c.loop-m.i - c.args.at < 9
 not_last c =
     let x = c.loop-m in
     not-tenth (x.i - c.args.at) x.m (omega arith) x.invariant.2 c.loop-m-test.true
 
-more : (c : tie.In-loop-m invariant-loop decreases-loop) → groups_of (9 - (c.loop-m.i - c.args.at)) c.loop-m.m ≡ (128 + c.loop-m.m % 128) ∷ groups_of (9 - (c.loop-m.i - c.args.at + 1)) (c.loop-m.m / 128)
+more : (c : In-loop-m invariant-loop decreases-loop) → groups_of (9 - (c.loop-m.i - c.args.at)) c.loop-m.m ≡ (128 + c.loop-m.m % 128) ∷ groups_of (9 - (c.loop-m.i - c.args.at + 1)) (c.loop-m.m / 128)
 more c = groups-more (c.loop-m.i - c.args.at) c.loop-m.m (not_last c) c.loop-m-test.true
 
-within : (c : tie.In-loop-m invariant-loop decreases-loop) → c.loop-m.i < length c.loop-m.out
+within : (c : In-loop-m invariant-loop decreases-loop) → c.loop-m.i < length c.loop-m.out
 within c = omega (arith, ap length (more c), c.loop-m.invariant.4, c.loop-m.invariant.3)
 
 pub overflow_cast-out : goal.overflow_cast-out

@@ -12,73 +12,73 @@ use native.Mathlib.Omega.{arith}
 use mathlib.Core.List.{List, ◌++◌, append_assoc}
 use mathlib.Core.Path.{◌≡◌, ap, ◌∙◌}
 use Prim.Native.Nat.{ℕ, ◌+◌, ◌≤◌}
-use Rattle.sheet.proofs.writing.fill_step.Tie as tie
 use Rattle.sheet.proofs.writing.fill_step.Goals as goal
+use Rattle.sheet.proofs.writing.fill_step.Goals.{After-fields_of-f, After-fill_field, After-fill_field-q, After-fill_field-t, After-fill_number-p, Start}
 
 -- where the function starts, and the bytes of its four parts
-abbrev start : tie.After-fields_of-f → tie.Start
+abbrev start : After-fields_of-f → Start
 start w = w.before.before.before
 
-abbrev opening : tie.Start → List ℕ
+abbrev opening : Start → List ℕ
 opening s = write_number (up s.args.op)
 
-abbrev field₁ : tie.Start → List ℕ
+abbrev field₁ : Start → List ℕ
 field₁ s = field_bytes (first (row_of s.args.op)) s.args.x
 
-abbrev field₂ : tie.Start → List ℕ
+abbrev field₂ : Start → List ℕ
 field₂ s = field_bytes (second (row_of s.args.op)) s.args.y
 
-abbrev field₃ : tie.Start → List ℕ
+abbrev field₃ : Start → List ℕ
 field₃ s = field_bytes (third (row_of s.args.op)) s.args.z
 
 -- there is room for all four
-enough : (s : tie.Start) → s.args.at + (length (opening s) + length (field₁ s) + length (field₂ s) + length (field₃ s)) ≤ length s.args.out.now
+enough : (s : Start) → s.args.at + (length (opening s) + length (field₁ s) + length (field₂ s) + length (field₃ s)) ≤ length s.args.out.now
 enough s = rw step-parts at s.requires
 
-number_is : (w : tie.After-fields_of-f) → w.natural-o.result ≡ up (start w).args.op
+number_is : (w : After-fields_of-f) → w.natural-o.result ≡ up (start w).args.op
 number_is w = w.natural-o.ensures ∙ ap up (to_z-of_z w64 (start w).args.op (start w).ranges.op)
 
-row_is : (w : tie.After-fields_of-f) → w.fields_of-f.result ≡ row_of (start w).args.op
+row_is : (w : After-fields_of-f) → w.fields_of-f.result ≡ row_of (start w).args.op
 row_is w = w.fields_of-f.ensures ∙ ap fields_of (number_is w)
 
 -- what is stored after each part
-abbrev start₀ : tie.After-fill_number-p → tie.Start
+abbrev start₀ : After-fill_number-p → Start
 start₀ w = start w.before.before
 
-filled₀ : (w : tie.After-fill_number-p) → Filled (start₀ w).args.out.now (start₀ w).args.at (opening (start₀ w)) w.fill_number-p.result w.fill_number-p.new.0
+filled₀ : (w : After-fill_number-p) → Filled (start₀ w).args.out.now (start₀ w).args.at (opening (start₀ w)) w.fill_number-p.result w.fill_number-p.new.0
 filled₀ w = rw (number_is w.before.before) at w.fill_number-p.ensures
 
-abbrev before₁ : tie.After-fill_field-q → tie.After-fill_number-p
+abbrev before₁ : After-fill_field-q → After-fill_number-p
 before₁ w = w.before.before.before.before.before
 
-abbrev start₁ : tie.After-fill_field-q → tie.Start
+abbrev start₁ : After-fill_field-q → Start
 start₁ w = start₀ (before₁ w)
 
-filled₁ : (w : tie.After-fill_field-q) → Filled (start₁ w).args.out.now (start₁ w).args.at (opening (start₁ w) ++ field₁ (start₁ w)) w.fill_field-q.result w.fill_field-q.new.0
+filled₁ : (w : After-fill_field-q) → Filled (start₁ w).args.out.now (start₁ w).args.at (opening (start₁ w) ++ field₁ (start₁ w)) w.fill_field-q.result w.fill_field-q.new.0
 filled₁ w =
     let s = start₁ w in
     let e = w.first.ensures ∙ ap first (row_is (before₁ w).before.before) in
     filled-then _ _ (opening s) (field₁ s) _ _ (filled₀ (before₁ w)) _ _ (rw (e, to_z-of_z w64 s.args.x s.fits.x) at w.fill_field-q.ensures)
 
-abbrev before₂ : tie.After-fill_field-t → tie.After-fill_field-q
+abbrev before₂ : After-fill_field-t → After-fill_field-q
 before₂ w = w.before.before.before.before.before
 
-abbrev start₂ : tie.After-fill_field-t → tie.Start
+abbrev start₂ : After-fill_field-t → Start
 start₂ w = start₁ (before₂ w)
 
-filled₂ : (w : tie.After-fill_field-t) → Filled (start₂ w).args.out.now (start₂ w).args.at ((opening (start₂ w) ++ field₁ (start₂ w)) ++ field₂ (start₂ w)) w.fill_field-t.result w.fill_field-t.new.0
+filled₂ : (w : After-fill_field-t) → Filled (start₂ w).args.out.now (start₂ w).args.at ((opening (start₂ w) ++ field₁ (start₂ w)) ++ field₂ (start₂ w)) w.fill_field-t.result w.fill_field-t.new.0
 filled₂ w =
     let s = start₂ w in
     let e = w.second.ensures ∙ ap second (row_is (before₁ (before₂ w)).before.before) in
     filled-then _ _ (opening s ++ field₁ s) (field₂ s) _ _ (filled₁ (before₂ w)) _ _ (rw (e, to_z-of_z w64 s.args.y s.fits.y) at w.fill_field-t.ensures)
 
-abbrev before₃ : tie.After-fill_field → tie.After-fill_field-t
+abbrev before₃ : After-fill_field → After-fill_field-t
 before₃ w = w.before.before.before.before.before
 
-abbrev start₃ : tie.After-fill_field → tie.Start
+abbrev start₃ : After-fill_field → Start
 start₃ w = start₂ (before₃ w)
 
-filled₃ : (w : tie.After-fill_field) → Filled (start₃ w).args.out.now (start₃ w).args.at (((opening (start₃ w) ++ field₁ (start₃ w)) ++ field₂ (start₃ w)) ++ field₃ (start₃ w)) w.fill_field.result w.fill_field.new.0
+filled₃ : (w : After-fill_field) → Filled (start₃ w).args.out.now (start₃ w).args.at (((opening (start₃ w) ++ field₁ (start₃ w)) ++ field₂ (start₃ w)) ++ field₃ (start₃ w)) w.fill_field.result w.fill_field.new.0
 filled₃ w =
     let s = start₃ w in
     let e = w.third.ensures ∙ ap third (row_is (before₁ (before₂ (before₃ w))).before.before) in

@@ -9,14 +9,14 @@ use native.Mathlib.Omega.{arith}
 use mathlib.Core.Path.{◌≡◌, ap}
 use Prim.Native.Nat.{◌+◌, ◌-◌, ◌*◌, ◌≤◌}
 use borrow.Author.Rules.{rules}
-use Rattle.sheet.proofs.writing.listed_width.Tie as tie
 use Rattle.sheet.proofs.writing.listed_width.Goals as goal
+use Rattle.sheet.proofs.writing.listed_width.Goals.{After-step_width-sum, In-loop-k}
 
 -- the four numbers of a turn, and how many bytes they take
-abbrev looping : tie.After-step_width-sum invariant-loop decreases-loop → tie.In-loop-k invariant-loop decreases-loop
+abbrev looping : After-step_width-sum invariant-loop decreases-loop → In-loop-k invariant-loop decreases-loop
 looping w = w.before.before.before.before.before
 
-found : (w : tie.After-step_width-sum invariant-loop decreases-loop) → w.step_width-sum.result ≡ length (step_bytes (fourth (looping w).before.before.args.steps.now (looping w).before.loop.k))
+found : (w : After-step_width-sum invariant-loop decreases-loop) → w.step_width-sum.result ≡ length (step_bytes (fourth (looping w).before.before.args.steps.now (looping w).before.loop.k))
 found w =
     let l = (looping w).before.before.args.steps.now in
     let i = (looping w).before.loop.k * 4 in
@@ -26,7 +26,7 @@ found w =
     let e₃ = to_z-of_z w64 (get_or l (i + 3) (pos 0)) (record { sfits = w.step_width-arg-in-loop-k-3-1.given }) in
     rw (e₀, e₁, e₂, e₃) at w.step_width-sum.ensures
 
-small : (w : tie.After-step_width-sum invariant-loop decreases-loop) → w.step_width-sum.result ≤ 40
+small : (w : After-step_width-sum invariant-loop decreases-loop) → w.step_width-sum.result ≤ 40
 small w = rw (found w) (step-bound (fourth (looping w).before.before.args.steps.now (looping w).before.loop.k))
 
 pub loop-k-init : goal.loop-k-init

@@ -6,11 +6,11 @@ use mir.Syntax.{w64}
 use native.Mathlib.Omega.{arith}
 use mathlib.Core.Path.{sym}
 use Prim.Native.Nat.{◌≤◌}
-use Rattle.sheet.proofs.writing.step_width.Tie as tie
 use Rattle.sheet.proofs.writing.step_width.Goals as goal
+use Rattle.sheet.proofs.writing.step_width.Goals.{After-width}
 
 -- each part is at most ten bytes long
-small : (c : tie.After-width) → (c.width.result ≤ 10) × (c.field_width-a.result ≤ 10) × (c.field_width-b.result ≤ 10) × (c.field_width-c.result ≤ 10)
+small : (c : After-width) → (c.width.result ≤ 10) × (c.field_width-a.result ≤ 10) × (c.field_width-b.result ≤ 10) × (c.field_width-c.result ≤ 10)
 small c =
     (
       rw c.width.ensures (number_size c.natural-o.result),

@@ -6,6 +6,7 @@ use Rattle.sign.proofs.index_of.Reads as index-of-reads
 use Rattle.sign.proofs.ported.strict_cmp.Reads as own-reads
 use Rattle.sign.proofs.ported.strict_cmp.Lts as lts
 use Rattle.sign.proofs.ported.strict_cmp.Goals as goal
+use Rattle.sign.proofs.ported.strict_cmp.Goals.{Need-bounds-1-result, Need-bounds-2-result}
 
 -- `sign::ported::strict_cmp` reads its table: the rule is one test of the 64 cells.
 -- Assumes nothing.
@@ -14,11 +15,11 @@ pub offset_bounds-i : goal.offset_bounds-i
 offset_bounds-i c = omega (arith, c.index_of-i.ensures, below c.args.a)
 
 -- LOST bounds-1-result
-index-1-result : tie.Need-bounds-1-result
+index-1-result : Need-bounds-1-result
 index-1-result c = omega (arith, c.before.index_of.ensures, below c.before.before.args.a)
 
 -- LOST bounds-2-result
-index-2-result : tie.Need-bounds-2-result
+index-2-result : Need-bounds-2-result
 index-2-result c = omega (arith, c.index-of2.ensures, below c.before.before.args.b)
 
 -- the sixth of the locals is the table

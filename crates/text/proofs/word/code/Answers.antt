@@ -4,10 +4,10 @@ use native.Mathlib.Omega.{arith}
 use borrow.Author.Tests.{lt-ltb, le-ltb}
 use Rattle.text.specs.Word.{code_of}
 use Rattle.text.proofs.Words.{coded-more, coded-end, byte_more, byte_fits}
-use Rattle.text.proofs.word.code.Tie as tie
 use Rattle.text.proofs.word.code.Goals as goal
+use Rattle.text.proofs.word.code.Goals.{After-wide}
 
-small : (c : tie.After-wide invariant-loop decreases-loop) → c.wide.result < 256
+small : (c : After-wide invariant-loop decreases-loop) → c.wide.result < 256
 small c = omega (arith, c.wide.ensures, c.shared_slice_known-in-loop-i-1.given c.loop-i.i)
 
 pub returns-then-w-gt8 : goal.returns-then-w-gt8
