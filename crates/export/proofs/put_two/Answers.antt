@@ -1,3 +1,4 @@
+use mathlib.Core.List.{[]}
 use native.Mathlib.Omega.{arith}
 use mathlib.Core.List.{◌∷◌}
 use mathlib.Core.Path.{refl}

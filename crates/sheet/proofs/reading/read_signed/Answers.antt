@@ -13,7 +13,7 @@ returns-in-Value c =
     let u = c.«unfold» in
     let a = c.args in
     let h : read_number a.s.now a.at ≡ got c.in-Value.n c.in-Value.p = sym c.read_number.ensures ∙ ap number_found c.in-Value.is in
-    let e : to_z w64 (of_z w64 u.result) ≡ u.result = to_z-of_z w64 u.result (record { sfits = u.type-inv }) in
+    let e : to_z w64 (of_z w64 u.result) ≡ u.result = to_z-of_z w64 u.result (record { sfits = u.type_inv }) in
     rw (e, u.ensures, signed-got a.s.now a.at _ _ h)
 
 pub returns-in-Refused : goal.returns-in-Refused

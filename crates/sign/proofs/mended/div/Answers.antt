@@ -1,3 +1,5 @@
+use borrow.Enum.Refused.{opened}
+use mathlib.Core.List.{[]}
 use mathlib.Core.Path.{ap, ◌∙◌}
 use mathlib.Core.List.{◌∷◌}
 use Rattle.sign.specs.declared.Sign.TheVariants.{Top}
@@ -15,4 +17,4 @@ returns-in-NonZero c = let d = c.div-quotient in one signs (λ s. Top) top_for_n
 
 pub returns-in_default : goal.returns-in_default
 unfolding div
-returns-in_default c = let d = c.div-quotient in one signs (λ s. s) top_for_non_zero (0 ∷ 1 ∷ 2 ∷ 3 ∷ 4 ∷ 5 ∷ 7 ∷ []) tt d.result c.in_default.in_default-own.keys2 ∙ ap top_for_non_zero d.ensures
+returns-in_default c = let d = c.div-quotient in one signs (λ s. s) top_for_non_zero (0 ∷ 1 ∷ 2 ∷ 3 ∷ 4 ∷ 5 ∷ 7 ∷ []) tt d.result (opened c.in_default.in_default-own.keys2) ∙ ap top_for_non_zero d.ensures

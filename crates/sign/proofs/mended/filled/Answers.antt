@@ -1,3 +1,5 @@
+use borrow.Enum.Refused.{opened}
+use mathlib.Core.List.{[]}
 use mathlib.Core.List.{◌∷◌}
 use mathlib.Core.Bool.{true}
 use Rattle.sign.specs.Sides.{filled}
@@ -9,4 +11,4 @@ use Rattle.sign.proofs.mended.filled.Goals as goal
 -- Assumes nothing.
 
 pub returns-in_default : goal.returns-in_default
-returns-in_default c = one truths (λ s. true) filled (0 ∷ 2 ∷ 3 ∷ 4 ∷ 5 ∷ 6 ∷ 7 ∷ []) tt c.args.s c.in_default.in_default-own.keys2
+returns-in_default c = one truths (λ s. true) filled (0 ∷ 2 ∷ 3 ∷ 4 ∷ 5 ∷ 6 ∷ 7 ∷ []) tt c.args.s (opened c.in_default.in_default-own.keys2)

@@ -1,3 +1,5 @@
+use borrow.Enum.Refused.{opened}
+use mathlib.Core.List.{[]}
 use mathlib.Core.List.{◌∷◌}
 use Rattle.sign.specs.declared.Sign.TheVariants.{Bottom, Zero, Positive, NonNeg}
 use Rattle.sign.specs.Mended.{logical_not}
@@ -22,4 +24,4 @@ returns-in-Positive c = one signs (λ s. Zero) logical_not (4 ∷ []) tt c.args.
 
 pub returns-in_default : goal.returns-in_default
 unfolding logical_not
-returns-in_default c = one signs (λ s. NonNeg) logical_not (0 ∷ 2 ∷ 5 ∷ 6 ∷ 7 ∷ []) tt c.args.a c.in_default.in_default-own.keys4
+returns-in_default c = one signs (λ s. NonNeg) logical_not (0 ∷ 2 ∷ 5 ∷ 6 ∷ 7 ∷ []) tt c.args.a (opened c.in_default.in_default-own.keys4)

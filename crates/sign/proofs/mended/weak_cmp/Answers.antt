@@ -1,3 +1,5 @@
+use borrow.Enum.Refused.{opened}
+use mathlib.Core.List.{[]}
 use mathlib.Core.Path.{◌≡◌, refl, ◌∙◌}
 use mathlib.Core.List.{◌∷◌}
 use Rattle.whole.specs.declared.Order.TheVariants.{Less, Greater}
@@ -21,11 +23,11 @@ returns-in-NonPos c = two orders (λ s t. Greater) weak_cmp (3 ∷ []) (7 ∷ []
 
 pub returns-in_default-b : goal.returns-in_default-b
 unfolding weak_cmp ported.weak_cmp sub add neg
-returns-in_default-b c = let d = c.args in c.weak_cmp.ensures ∙ two orders ported.weak_cmp weak_cmp (3 ∷ []) (0 ∷ 1 ∷ 2 ∷ 3 ∷ 4 ∷ 6 ∷ []) tt d.a d.b c.in-Zero.in-Zero-own.keys1 c.in_default-b.in_default-b-own.keys3
+returns-in_default-b c = let d = c.args in c.weak_cmp.ensures ∙ two orders ported.weak_cmp weak_cmp (3 ∷ []) (0 ∷ 1 ∷ 2 ∷ 3 ∷ 4 ∷ 6 ∷ []) tt d.a d.b c.in-Zero.in-Zero-own.keys1 (opened c.in_default-b.in_default-b-own.keys3)
 
 pub returns-in_default : goal.returns-in_default
 unfolding weak_cmp ported.weak_cmp
 returns-in_default c =
     let d = c.args in
     c.weak_cmp-in_default.ensures ∙ arm (λ s. ported.weak_cmp s d.b ≡ weak_cmp s d.b) (0 ∷ 1 ∷ 2 ∷ 4 ∷ 5 ∷ 6 ∷ 7 ∷ [])
-    (refl, (refl, (refl, (refl, (refl, (refl, (refl, tt))))))) d.a c.in_default.in_default-own.keys2
+    (refl, (refl, (refl, (refl, (refl, (refl, (refl, tt))))))) d.a (opened c.in_default.in_default-own.keys2)

@@ -1,3 +1,5 @@
+use borrow.Enum.Refused.{opened}
+use mathlib.Core.List.{[]}
 use mathlib.Core.Path.{ap, ◌∙◌}
 use mathlib.Core.List.{◌∷◌}
 use Rattle.sign.specs.declared.Sign.TheVariants.{NonNeg, NonPos}
@@ -19,4 +21,4 @@ returns-in-Negative c = let d = c.mul-product in one signs (λ s. NonPos) quotie
 
 pub returns-in_default : goal.returns-in_default
 unfolding div
-returns-in_default c = let d = c.mul-product in one signs (λ s. s) quotient (0 ∷ 1 ∷ 3 ∷ 5 ∷ 6 ∷ 7 ∷ []) tt d.result c.in_default.in_default-own.keys3 ∙ ap quotient d.ensures
+returns-in_default c = let d = c.mul-product in one signs (λ s. s) quotient (0 ∷ 1 ∷ 3 ∷ 5 ∷ 6 ∷ 7 ∷ []) tt d.result (opened c.in_default.in_default-own.keys3) ∙ ap quotient d.ensures

@@ -30,24 +30,24 @@ pub returns-then-surely_equal : goal.returns-then-surely_equal
 unfolding logical_eq
 returns-then-surely_equal c =
     let d = c.args in
-    surely-so (surely d.a d.b d.is-bool) (d.a inside d.b) (d.b inside d.a) (sym c.surely_equal.ensures ∙ c.if-surely_equal.true)
+    surely-so (surely d.a d.b d.is_bool) (d.a inside d.b) (d.b inside d.a) (sym c.surely_equal.ensures ∙ c.if-surely_equal.true)
 
 pub returns-then-at_most : goal.returns-then-at_most
 unfolding logical_eq
 returns-then-at_most c =
     let d = c.args in
-    left-inside (surely d.a d.b d.is-bool) (d.a inside d.b) (d.b inside d.a) (sym c.surely_equal.ensures ∙ c.if-surely_equal.false) (sym c.at_most.ensures ∙ c.if-at_most.true)
+    left-inside (surely d.a d.b d.is_bool) (d.a inside d.b) (d.b inside d.a) (sym c.surely_equal.ensures ∙ c.if-surely_equal.false) (sym c.at_most.ensures ∙ c.if-at_most.true)
 
 pub returns-then-at_most-2 : goal.returns-then-at_most-2
 unfolding logical_eq
 returns-then-at_most-2 c =
     let d = c.args in
-    right-inside (surely d.a d.b d.is-bool) (d.a inside d.b) (d.b inside d.a) (sym c.surely_equal.ensures ∙ c.if-surely_equal.false) (sym c.at_most.ensures ∙ c.if-at_most.false)
+    right-inside (surely d.a d.b d.is_bool) (d.a inside d.b) (d.b inside d.a) (sym c.surely_equal.ensures ∙ c.if-surely_equal.false) (sym c.at_most.ensures ∙ c.if-at_most.false)
     (sym c.at_most-else-at_most.ensures ∙ c.if-at_most-2.true)
 
 pub returns-else-at_most-2 : goal.returns-else-at_most-2
 unfolding logical_eq
 returns-else-at_most-2 c =
     let d = c.args in
-    apart (surely d.a d.b d.is-bool) (d.a inside d.b) (d.b inside d.a) (sym c.surely_equal.ensures ∙ c.if-surely_equal.false) (sym c.at_most.ensures ∙ c.if-at_most.false)
+    apart (surely d.a d.b d.is_bool) (d.a inside d.b) (d.b inside d.a) (sym c.surely_equal.ensures ∙ c.if-surely_equal.false) (sym c.at_most.ensures ∙ c.if-at_most.false)
     (sym c.at_most-else-at_most.ensures ∙ c.if-at_most-2.false)

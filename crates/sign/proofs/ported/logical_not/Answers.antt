@@ -1,3 +1,5 @@
+use borrow.Enum.Refused.{opened}
+use mathlib.Core.List.{[]}
 use mathlib.Core.Path.{◌≡◌, refl}
 use mathlib.Core.List.{◌∷◌}
 use Rattle.refusal.specs.Answer.{is, refused}
@@ -23,4 +25,4 @@ returns-in-Zero c = arm (λ s. is Positive ≡ logical_not s) (3 ∷ []) (refl, 
 
 pub returns-in_default : goal.returns-in_default
 unfolding logical_not
-returns-in_default c = arm (λ s. refused 4 ≡ logical_not s) (0 ∷ 1 ∷ 2 ∷ 6 ∷ 7 ∷ []) (refl, (refl, (refl, (refl, (refl, tt))))) c.args.a c.in_default.in_default-own.keys4
+returns-in_default c = arm (λ s. refused 4 ≡ logical_not s) (0 ∷ 1 ∷ 2 ∷ 6 ∷ 7 ∷ []) (refl, (refl, (refl, (refl, (refl, tt))))) c.args.a (opened c.in_default.in_default-own.keys4)

@@ -1,3 +1,4 @@
+use mathlib.Core.List.{[]}
 use mathlib.Core.List.{◌∷◌}
 use Rattle.sign.specs.declared.Sign.TheVariants.{Negative, Positive, NonNeg, NonPos}
 use Rattle.sign.specs.Ported.{neg}
