@@ -1,14 +1,14 @@
 -- What document 01 says of congruences: the canonical form, the domain of a width, and each mended operation at any width, for every value of the
 -- domain, canonical or not. What is said of an answer stands in specs/Meaning.antt.
 use mathlib.Core.Path.{◌≡◌, refl, ap}
-use mathlib.Core.Bool.{Bool, true, false, not, ◌&&◌}
+use mathlib.Core.Bool.{Bool, true, false, ◌&&◌}
 use mathlib.Core.Logic.{◌↔◌}
 use Prim.Native.Nat.{ℕ}
 use native.Mathlib.Omega.{arith}
 use lib.IntN.{ℤ}
 use mir.Syntax.{Width, w64}
 use mir.Val.{SFits}
-use Rattle.whole.specs.Test.{◌≤?◌, ◌<?◌, ◌≟◌, truth}
+use Rattle.whole.specs.Test.{◌≤?◌, ◌<?◌, ◌≟◌}
 use Rattle.whole.specs.declared.Order.{Order}
 use Rattle.whole.proofs.Decides.{both, branch, is_true, is_false, is-fit, yes, no}
 use Rattle.refusal.specs.Answer.{is}

@@ -14,7 +14,7 @@ use Rattle.whole.specs.declared.Exact.{Exact}
 use Rattle.whole.specs.declared.Exact.TheVariants as exacts
 use Rattle.whole.proofs.Linear.{ints, wholes, read, abs, from-≢}
 use Rattle.whole.proofs.Fits.{machine, range}
-use Rattle.whole.proofs.Decides.{Decides, holds, fails, eq_test, lt_test, fits-test, both, either, branch, is_false, is-fit, not_beyond, yes, no}
+use Rattle.whole.proofs.Decides.{Decides, holds, fails, eq_test, lt_test, fits-test, both, either, branch, is_false, is-fit, not_beyond, yes}
 use Rattle.whole.proofs.Divide.{rem-small}
 use Rattle.whole.proofs.Divides.{∣-of-rem, rem-of-∣}
 use Rattle.whole.proofs.Floor.{rem-class}

@@ -9,7 +9,7 @@ use Rattle.whole.specs.Range.{fits?}
 use Rattle.whole.specs.Sized.{width_of}
 use Rattle.whole.specs.declared.Size.{Size}
 use Rattle.whole.proofs.Flags.{bools, told, was-false, was-true, and_yes, and_no, and-no-2, or_yes, or-yes-2, or_no}
-use Rattle.whole.proofs.Calls.{called-1, called}
+use Rattle.whole.proofs.Calls.{called-1}
 use Rattle.whole.proofs.Sizes.{both_is}
 use Rattle.interval.specs.declared.IntervalAnswer.{IntervalAnswer}
 use Rattle.refusal.specs.Answer.{Answer, is}

@@ -1,6 +1,6 @@
 -- What the mended operations are, by document 01's words (specs/Promise.antt): each claim speaks of the operation itself, at every width and on every two intervals.
 use mathlib.Core.Path.{◌≡◌, refl, ap}
-use mathlib.Core.Logic.{◌≢◌, ◌⊎◌, inl, inr}
+use mathlib.Core.Logic.{◌≢◌, inl, inr}
 use Prim.Native.Nat.{ℕ}
 use lib.IntN.{ℤ, neg_ℤ, ◌+ℤ◌, ◌-ℤ◌, ◌*ℤ◌}
 use lib.Signed.{◌≤ℤ◌, ◌<ℤ◌}

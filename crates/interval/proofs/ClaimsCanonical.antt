@@ -13,7 +13,7 @@ use Rattle.whole.proofs.Fits.{fits, low, high}
 use Rattle.whole.proofs.Divide.{fits-rem}
 use Rattle.whole.proofs.Decides.{branch, both, either, eq_test, is-fit}
 use Rattle.interval.specs.Set.{Interval, ◌⋯◌, top, bottom, empty?, is_bottom, in_width?, canonical?, Proper, Canonical, some, none}
-use Rattle.refusal.specs.Answer.{Answer, is, refused}
+use Rattle.refusal.specs.Answer.{Answer}
 use Rattle.interval.specs.Mended.{neg, add, sub, mul, div, rem, rem_single, equals, less, greater, less_or_equal, greater_or_equal, narrowed, filled, narrow}
 use Rattle.interval.specs.Promise.{Operation, Arithmetic, Exact, fitting, too_wide, Comparison, Verdict, Judged, judged, always, never, sometimes, Well, shown, refusing}
 use Rattle.interval.proofs.Test.{in-test, only-test}

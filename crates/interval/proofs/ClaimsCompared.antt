@@ -1,7 +1,6 @@
 -- Where a comparison may hold, exactly; and error 4 of document 01.
 use mathlib.Core.Path.{◌≡◌}
 use mathlib.Core.Logic.{◌⊎◌, inl, inr, ◌↔◌}
-use mathlib.Core.Bool.{false}
 use Prim.Native.Nat.{ℕ}
 use lib.IntN.{ℤ, pos, ◌+ℤ◌, ◌-ℤ◌}
 use lib.Signed.{◌≤ℤ◌, ◌<ℤ◌}
@@ -15,9 +14,9 @@ use Rattle.whole.proofs.Decides.{Decides, branch, either, le_test, lt_test, eq_t
 use Rattle.interval.specs.declared.Pair.{Pair}
 use Rattle.interval.specs.Set.{Interval, ◌∈◌, bottom, single, Proper, Canonical}
 use Rattle.interval.specs.declared.Single.TheVariants.{One}
-use Rattle.refusal.specs.Answer.{Answer, is, refused}
+use Rattle.refusal.specs.Answer.{Answer}
 use Rattle.interval.specs.Mended.{filled}
-use Rattle.interval.specs.PortedPromise.{Partner, Sides, Answered, answers, refuses}
+use Rattle.interval.specs.PortedPromise.{Sides, Answered, answers, refuses}
 use Rattle.interval.specs.Ported.{may_equal_when, meet, apart, pair, less_left, less_right, maybe_less_when, le_left, le_right, maybe_le_when, singleton, same_one, weak_cmp, le_by, ge_by}
 use Rattle.interval.proofs.Ends.{low-in, high-in}
 use Rattle.interval.proofs.Canonical.{IsBottom, NotBottom, bottom-test, nothing, has-number, not-bottom}

@@ -8,8 +8,6 @@ use mir.Syntax.{Width, w64}
 use Rattle.whole.specs.Choice.{pick}
 use Rattle.whole.specs.Test.{◌<?◌, ◌≟◌}
 use Rattle.whole.specs.Range.{least, greatest}
-use Rattle.whole.specs.declared.Order.{Order}
-use Rattle.whole.specs.declared.Order.TheVariants.{Less, Equal, Greater, None}
 use Rattle.whole.proofs.Linear.{ints}
 use Rattle.whole.proofs.Linear as L
 use Rattle.whole.proofs.Decides.{branch, both, le_test, lt_test, eq_test}

@@ -13,7 +13,7 @@ use Rattle.sign.specs.declared.Sign.TheVariants.{Top, Bottom, Negative, Zero, Po
 use Rattle.sign.specs.Set as S
 use Rattle.sign.specs.Set.{Side, negative, nought, positive, side_of, ◌has◌}
 use Rattle.sign.proofs.Laws.{side-below, side-above}
-use Rattle.interval.specs.Set.{Interval, ◌∈◌, Canonical, none}
+use Rattle.interval.specs.Set.{Interval, ◌∈◌, Canonical}
 use Rattle.interval.specs.PortedPromise.{Occurs, ExactSign}
 use Rattle.interval.specs.Ported.{sign_of, side_sign}
 use Rattle.interval.proofs.Test.{only-test}

@@ -1,11 +1,10 @@
 -- A pair that stands for nothing, made bottom, stands for the same; and what is made so is canonical.
-use lib.IntN.{ℤ}
 use lib.Signed.{◌≤ℤ◌}
 use mir.Syntax.{Width}
 use Rattle.whole.specs.Range.{least, greatest}
 use Rattle.whole.proofs.Linear.{ints}
 use Rattle.whole.proofs.Decides.{branch, lt_test}
-use Rattle.interval.specs.Set.{Interval, ◌∈◌, ◌⊆◌, bottom, Canonical, some, none}
+use Rattle.interval.specs.Set.{Interval, ◌∈◌, ◌⊆◌, Canonical, some, none}
 use Rattle.interval.specs.Mended.{filled}
 use Rattle.interval.proofs.Canonical.{nothing}
 

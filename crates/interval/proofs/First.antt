@@ -4,7 +4,7 @@ use mathlib.Core.Logic.{◌⊎◌, inl, inr, ⊎_swap}
 use mathlib.Core.Bool.{Bool, true, false, ◌&&◌, ◌||◌}
 use lib.IntN.{ℤ, pos}
 use mir.Syntax.{Width}
-use Rattle.refusal.specs.Answer.{Answer, is, refused}
+use Rattle.refusal.specs.Answer.{Answer, is}
 use Rattle.interval.specs.Set.{Interval, ◌⋯◌, bottom, empty?, canonical?, Proper, Canonical, some}
 use Rattle.interval.specs.Mended.{strict, lenient}
 use Rattle.interval.specs.Promise.{Operation, OutsideRefused, BesideBottom, Arithmetic, Comparison, Some, Verdict, always, never, sometimes, Judged, judged}

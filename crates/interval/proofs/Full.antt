@@ -1,5 +1,5 @@
 -- The tests that the code makes first come to those of the definition.
-use mathlib.Core.Path.{◌≡◌, refl, sym, ◌∙◌}
+use mathlib.Core.Path.{◌≡◌, refl}
 use mathlib.Core.Bool.{Bool, true, false, ◌&&◌, ◌||◌}
 use Prim.Native.Nat.{ℕ}
 use native.Mathlib.Omega.{arith}
@@ -10,7 +10,7 @@ use Rattle.whole.specs.Choice.{pick}
 use Rattle.whole.proofs.Fits.{low, high}
 use Rattle.refusal.specs.Answer.{Answer, is, refused}
 use Rattle.interval.specs.Set.{Interval, ◌⋯◌, top, bottom, empty?, is_bottom, in_width?, canonical?}
-use Rattle.interval.specs.Mended.{strict, ranged}
+use Rattle.interval.specs.Mended.{strict}
 use Rattle.interval.specs.Full.{full?, unmade}
 use Rattle.interval.specs.Ends.{held_range}
 use Rattle.interval.proofs.Test.{is-in}

@@ -11,7 +11,7 @@ use Rattle.whole.specs.Range.{least, greatest}
 use Rattle.whole.proofs.Linear.{ints}
 use Rattle.whole.proofs.Decides.{branch, either, lt_test, eq_test, unequal, is_true, is_false}
 use Rattle.interval.specs.Set.{Interval, ◌⋯◌, ◌⊆◌, bottom, is_bottom, Proper, Canonical, some}
-use Rattle.refusal.specs.Answer.{Answer, is}
+use Rattle.refusal.specs.Answer.{is}
 use Rattle.interval.specs.Promise.{OutsideRefused, BesideBottom, Taken, renewed, kept, Between, between}
 use Rattle.interval.specs.Mended.{narrowed, filled, narrow}
 use Rattle.interval.proofs.Canonical.{IsBottom, bottom-test, bottom-empty, bottom-is, bottom-found, not-bottom, nothing, canonical-is, has-number}

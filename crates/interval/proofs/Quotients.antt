@@ -1,5 +1,5 @@
 -- The mended quotient, where both intervals have a number: the four quotients of ends bound all quotients by divisors on one side of 0.
-use mathlib.Core.Path.{◌≡◌, refl}
+use mathlib.Core.Path.{◌≡◌}
 use mathlib.Core.Logic.{◌≢◌, ◌⊎◌, inl, inr}
 use mathlib.Core.Bool.{true, false}
 use lib.IntN.{ℤ, pos, negsuc, neg_ℤ}
@@ -14,7 +14,7 @@ use Rattle.whole.proofs.Fits.{fits, low, high}
 use Rattle.whole.proofs.Divide.{quot-neg, quot-corners}
 use Rattle.whole.proofs.Decides.{Decides, branch, both, either, equal, is_false}
 use Rattle.refusal.specs.Answer.{Answer, is}
-use Rattle.interval.specs.Set.{Interval, ◌⋯◌, ◌∈◌, ◌∉◌, ◌∈?◌, top, bottom, single, is_only, Proper}
+use Rattle.interval.specs.Set.{Interval, ◌⋯◌, ◌∈◌, ◌∉◌, ◌∈?◌, top, bottom, single, Proper}
 use Rattle.interval.specs.Results.{Least, LeastAnswer, least-is, Covering, covering}
 use Rattle.interval.specs.Promise.{Quotients}
 use Rattle.interval.specs.Mended.{ranged, low_corner, high_corner, unbounded?, quotients_of}

@@ -8,7 +8,7 @@ use mir.Syntax.{Width, w64}
 use mir.Val.{SFits}
 use Rattle.whole.specs.Choice.{pick}
 use Rattle.whole.specs.Whole.{min_ℤ, max_ℤ, min4, max4}
-use Rattle.whole.specs.Range.{least, greatest, fits?}
+use Rattle.whole.specs.Range.{fits?}
 use Rattle.whole.specs.Exact.{exactly}
 use Rattle.whole.specs.Sized.{width_of}
 use Rattle.whole.specs.declared.Size.{Size}

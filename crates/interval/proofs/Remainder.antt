@@ -1,6 +1,6 @@
 -- The remainder's code: the single numbers, and the greatest magnitude less one, by sums that stay in the width.
 use mathlib.Core.Path.{◌≡◌, refl, sym, ◌∙◌}
-use mathlib.Core.Logic.{◌≢◌, ◌⊎◌, inl, inr}
+use mathlib.Core.Logic.{◌⊎◌, inl, inr}
 use mathlib.Core.Bool.{Bool, true, false, ◌&&◌, ◌||◌}
 use lib.IntN.{ℤ, pos, negsuc, neg_ℤ, ◌+ℤ◌, ◌-ℤ◌, +ℤ_idl}
 use lib.Signed.{◌≤ℤ◌, quot_z, rem_z}
@@ -9,7 +9,7 @@ use mir.Syntax.{Width, w64}
 use mir.Val.{SFits, to_z, of_z, hbits}
 use mir.Facts.{to_z-of_z}
 use Rattle.whole.specs.Choice.{pick}
-use Rattle.whole.specs.Test.{◌≤?◌, ◌<?◌, ◌≟◌}
+use Rattle.whole.specs.Test.{◌<?◌}
 use Rattle.whole.specs.Whole.{max_ℤ}
 use Rattle.whole.specs.Range.{least, greatest, clamp, fits?}
 use Rattle.whole.specs.Exact.{exactly}
@@ -21,14 +21,13 @@ use Rattle.whole.proofs.Found.{found-fits, not_found}
 use Rattle.whole.proofs.Linear as L
 use Rattle.whole.proofs.Shapes.{lin}
 use Rattle.whole.proofs.Fits.{machine, range, low, high}
-use Rattle.whole.proofs.Decides.{branch, both, lt_test, eq_test, yes, no, is_false}
+use Rattle.whole.proofs.Decides.{branch, lt_test, no}
 use Rattle.whole.proofs.Calls.{called}
 use Rattle.interval.specs.declared.IntervalAnswer.{IntervalAnswer}
-use Rattle.interval.specs.Set.{Interval, ◌⋯◌, bottom, single, is_only, empty?, canonical?}
+use Rattle.interval.specs.Set.{Interval, ◌⋯◌, bottom, empty?, canonical?}
 use Rattle.refusal.specs.Answer.{Answer, is, refused}
 use Rattle.interval.specs.Answer.{told}
 use Rattle.interval.specs.Mended.{strict, rem_single, rem_within}
-use Rattle.interval.proofs.Test.{only-test}
 use Rattle.interval.proofs.Rem.{signs, one-fits}
 
 -- ---- two single numbers

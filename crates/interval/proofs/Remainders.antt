@@ -1,7 +1,7 @@
 -- The mended remainder by document 01's rule, where both intervals have a number.
 use mathlib.Core.Path.{◌≡◌, refl, sym, ap, ◌∙◌}
-use mathlib.Core.Logic.{◌≢◌, ◌⊎◌, inl, inr, ◌↔◌}
-use mathlib.Core.Bool.{Bool, true, false, ◌&&◌}
+use mathlib.Core.Logic.{◌≢◌, ◌⊎◌, inl, inr}
+use mathlib.Core.Bool.{Bool, false, ◌&&◌}
 use Prim.Native.Nat.{ℕ}
 use lib.Pow.{pow_pos}
 use lib.IntN.{ℤ, pos, negsuc, neg_ℤ, nat_abs, ◌-ℤ◌}
@@ -9,7 +9,7 @@ use lib.Signed.{◌≤ℤ◌, ◌<ℤ◌, quot_z, rem_z}
 use mir.Syntax.{Width}
 use mir.Val.{SFits, hbits}
 use Rattle.whole.specs.Test.{◌≟◌}
-use Rattle.whole.specs.Range.{least, greatest}
+use Rattle.whole.specs.Range.{least}
 use Rattle.whole.proofs.Linear.{ints, abs, from-≢, split}
 use Rattle.whole.proofs.Linear as L
 use Rattle.whole.proofs.Shapes.{lin}

@@ -5,8 +5,8 @@ use mathlib.Core.Bool.{Bool, not, ◌&&◌, ◌||◌}
 use lib.IntN.{ℤ, pos}
 use lib.Signed.{◌≤ℤ◌, ◌<ℤ◌}
 use Rattle.whole.proofs.Linear.{ints, split}
-use Rattle.whole.specs.Test.{◌≤?◌, ◌<?◌, ◌≟◌, truth}
-use Rattle.interval.specs.Set.{Interval, ◌⋯◌, ◌∈◌, single, is_only}
+use Rattle.whole.specs.Test.{◌≟◌, truth}
+use Rattle.interval.specs.Set.{Interval, ◌⋯◌, ◌∈◌, single}
 use Rattle.interval.specs.Promise.{Some, All, Verdict, always, never, sometimes}
 use Rattle.interval.specs.Mended.{verdict, less_v, less_or_equal_v, equals_v, and_v, or_v, not_v}
 use Rattle.whole.proofs.Decides.{Decides, holds, fails, le_test, lt_test, eq_test, both, either, isn't}

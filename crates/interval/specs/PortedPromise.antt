@@ -1,5 +1,5 @@
 -- What document 01 says of the ported operations: 64-bit, and set statements of canonical intervals.
-use Rattle.std.specs.Prelude.{◌≡◌, ◌≢◌, ◌⊎◌, ◌↔◌, true, ℤ, negsuc, ◌*ℤ◌}
+use Rattle.std.specs.Prelude.{◌≡◌, ◌≢◌, ◌⊎◌, ◌↔◌, true, ℤ, ◌*ℤ◌}
 use Rattle.std.specs.Int.{w64}
 use Rattle.std.proofs.Common.{SFits}
 use Rattle.whole.specs.Range.{least, greatest}
@@ -9,7 +9,7 @@ use Rattle.refusal.specs.Answer.{Answer, is, refused}
 use Rattle.sign.specs.declared.Sign.{Sign}
 use Rattle.sign.specs.Set.{Side, side_of, ◌has◌}
 use Rattle.interval.specs.declared.Pair.{Pair}
-use Rattle.interval.specs.Set.{Interval, ◌∈◌, ◌⊆◌, bottom, single}
+use Rattle.interval.specs.Set.{Interval, ◌∈◌, ◌⊆◌, bottom}
 use Rattle.interval.specs.Promise.{Several, MinByMinusOne}
 
 -- ---- the lattice

@@ -2,7 +2,7 @@ use mathlib.Core.Path.{◌∙◌, ap₂}
 use Prim.Native.Nat.{◌-◌, ◌+◌}
 use native.Mathlib.Omega.{arith}
 use mir.Facts.{to_z-of_z}
-use Rattle.whole.proofs.Fits.{fits, zero-fits}
+use Rattle.whole.proofs.Fits.{zero-fits}
 use Rattle.whole.proofs.Flags.{lt-false, lt-true}
 use Rattle.congruence.proofs.Remainders.{abs-small, abs-small-pos, apart_below, apart-across, apart-across-2, apart_above}
 use Rattle.congruence.proofs.number.distance.Goals as goal

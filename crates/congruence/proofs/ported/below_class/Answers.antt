@@ -1,7 +1,6 @@
 use mathlib.Core.Bool.{true, false}
 use mathlib.Core.Path.{refl}
 use lib.IntN.{pos}
-use Rattle.whole.proofs.Fits.{fits}
 use Rattle.congruence.proofs.Calls.{calls, leaves-told, leaves-is}
 use Rattle.whole.proofs.Flags.{eq-no-64}
 use Rattle.congruence.proofs.Values.{values, and_is, not_on, fits-0, and-off}

@@ -1,4 +1,3 @@
-use Rattle.whole.proofs.Fits.{fits}
 use Rattle.whole.proofs.Flags.{was-true, was-false}
 use Rattle.congruence.proofs.Values.{singles-told, values}
 use Rattle.congruence.specs.Ported.{compared}

@@ -1,4 +1,3 @@
-use Rattle.whole.proofs.Fits.{fits}
 use Rattle.congruence.proofs.Values.{only-told, values}
 use Rattle.congruence.specs.Ported.{conjoined}
 use Rattle.congruence.proofs.ported.conjoined.Goals as goal

@@ -1,4 +1,3 @@
-use Rattle.whole.proofs.Fits.{fits}
 use Rattle.congruence.proofs.Calls.{only-call}
 use Rattle.congruence.proofs.Values.{only-told, values}
 use Rattle.congruence.specs.Ported.{inverted}

@@ -1,4 +1,3 @@
-use Rattle.whole.proofs.Fits.{fits}
 use Rattle.congruence.proofs.Values.{same-told, values}
 use Rattle.congruence.specs.Ported.{narrowed}
 use Rattle.congruence.proofs.ported.narrowed.Goals as goal

@@ -1,4 +1,3 @@
-use Rattle.whole.proofs.Fits.{fits}
 use Rattle.congruence.proofs.Values.{same-told, below-told, values}
 use Rattle.congruence.specs.Ported.{ordered}
 use Rattle.congruence.proofs.ported.ordered.Goals as goal

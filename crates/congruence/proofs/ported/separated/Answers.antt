@@ -1,4 +1,3 @@
-use Rattle.whole.proofs.Fits.{fits}
 use Rattle.congruence.proofs.Calls.{calls}
 use Rattle.congruence.proofs.Values.{values}
 use Rattle.congruence.specs.Ported.{separated}

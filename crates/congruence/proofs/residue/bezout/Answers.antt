@@ -2,7 +2,7 @@ use mathlib.Core.Path.{◌≡◌, refl, sym, ap, ◌∙◌, subst}
 use Prim.Native.Nat.{◌+◌, ◌-◌, ◌*◌, ◌/◌, ◌%◌, ◌<◌}
 use native.Mathlib.Nat.{mod-lt, pos_of_ne-zero}
 use lib.IntN.{pos, ◌*ℤ◌}
-use Rattle.whole.specs.Divides.{gcd, Cong}
+use Rattle.whole.specs.Divides.{Cong}
 use Rattle.whole.proofs.CommonDivisor.{gcd-step}
 use Rattle.congruence.proofs.Residues.{euclid, starts, ends}
 use Rattle.congruence.proofs.residue.bezout.Goals as goal

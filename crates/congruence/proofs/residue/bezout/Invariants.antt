@@ -1,5 +1,5 @@
 use mathlib.Core.Path.{◌≡◌}
-use Prim.Native.Nat.{◌-◌, ◌*◌, ◌<◌}
+use Prim.Native.Nat.{◌<◌}
 use lib.IntN.{pos, ◌*ℤ◌}
 use Rattle.whole.specs.Divides.{gcd, Cong}
 use Rattle.congruence.proofs.residue.bezout.Given as goal

@@ -1,4 +1,3 @@
-use Prim.Native.Nat.{◌-◌}
 use native.Mathlib.Omega.{arith}
 use native.Mathlib.Nat.{mod-lt}
 use Rattle.congruence.proofs.Residues.{g-pos, N-pos, crt-by, pos_of_lt}

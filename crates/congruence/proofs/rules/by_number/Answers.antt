@@ -1,4 +1,3 @@
-use Rattle.whole.proofs.Fits.{fits}
 use Rattle.congruence.proofs.Calls.{calls}
 use Rattle.congruence.proofs.Values.{divides-call, values}
 use Rattle.congruence.specs.Mended.{by_number}

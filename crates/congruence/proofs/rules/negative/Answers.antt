@@ -1,5 +1,3 @@
-use Rattle.whole.proofs.Bits.{negative}
-use Rattle.whole.proofs.Fits.{fits}
 use Rattle.congruence.proofs.Calls.{calls}
 use Rattle.congruence.proofs.Values.{values}
 use Rattle.congruence.specs.Mended as mended

@@ -10,14 +10,10 @@ use Rattle.congruence.proofs.rules.sum_modulo.Goals as goal
 
 pub overflow_sub-m : goal.overflow_sub-m
 overflow_sub-m c =
-    let d = c in
-    let s = d.before.before in
-    let f = s.ranges in
-    let i : SFits w64 d.before.floored-remainder.result = search values in
-    let j : SFits w64 d.floored-remainder2.result = search values in
-    let p = simp (to_z-of_z f.x, to_z-of_z f.m) at d.before.floored-remainder.ensures in
-    let q = simp (to_z-of_z f.y, to_z-of_z f.m) at d.floored-remainder2.ensures in
-    simp (to_z-of_z f.m, to_z-of_z j) (rw q (room s.args.x s.args.y s.args.m s.requires f.m))
+    let f = c.ranges in
+    let j : SFits w64 c.floored_remainder-b.result = search values in
+    let q = simp (to_z-of_z f.y, to_z-of_z f.m) at c.floored_remainder-b.ensures in
+    simp (to_z-of_z f.m, to_z-of_z j) (rw q (room c.args.x c.args.y c.args.m c.requires f.m))
 
 pub overflow_add-result : goal.overflow_add-result
 overflow_add-result c =

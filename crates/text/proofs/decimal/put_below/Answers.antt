@@ -17,7 +17,7 @@ pub fill_digits-requires : goal.fill_digits-requires
 fill_digits-requires c = (simp length-set (omega arith), c.width-k.ensures)
 
 pub shape_of-out : goal.shape_of-out
-shape_of-out c = simp length-set at c.fill_digits.auto.0
+shape_of-out c = simp length-set at c.fill_digits.auto.out
 
 pub returns-then-k-out : goal.returns-then-k-out
 returns-then-k-out c =

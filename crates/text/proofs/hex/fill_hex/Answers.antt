@@ -1,4 +1,4 @@
-use Prim.Native.Nat.{suc, ◌-◌, ◌+◌}
+use Prim.Native.Nat.{suc, ◌+◌}
 use mathlib.Core.Path.{◌≡◌, refl, sym, ◌∙◌}
 use native.Mathlib.Omega.{arith}
 use lib.ListN.{length-set}
@@ -13,7 +13,7 @@ pub bounds-bytes-j : goal.bounds-bytes-j
 bounds-bytes-j c = omega arith
 
 pub digit_of-requires : goal.digit_of-requires
-digit_of-requires c = omega (arith, c.shared_slice_known-in-loop-j-1.given c.loop-j.j)
+digit_of-requires c = omega (arith, c.type_inv.bytes c.loop-j.j)
 
 pub bounds-out-i : goal.bounds-out-i
 bounds-out-i c = omega (arith, text-length c.args.bytes.now)

@@ -1,4 +1,4 @@
-use Prim.Native.Nat.{◌<◌, ◌-◌}
+use Prim.Native.Nat.{◌<◌}
 use mathlib.Core.Path.{refl, sym, ◌∙◌}
 use native.Mathlib.Omega.{arith}
 use borrow.Author.Tests.{lt-ltb, le-ltb}
@@ -7,8 +7,8 @@ use Rattle.text.proofs.Words.{coded-more, coded-end, byte_more, byte_fits}
 use Rattle.text.proofs.word.code.Goals as goal
 use Rattle.text.proofs.word.code.Goals.{After-wide}
 
-small : (c : After-wide invariant-loop decreases-loop) → c.wide.result < 256
-small c = omega (arith, c.wide.ensures, c.shared_slice_known-in-loop-i-1.given c.loop-i.i)
+small : (c : After-wide) → c.wide.result < 256
+small c = omega (arith, c.wide.ensures, c.type_inv.w c.loop-i.i)
 
 pub returns-then-w-gt8 : goal.returns-then-w-gt8
 unfolding code_of
