@@ -1,35 +1,27 @@
 -- What each operator shows is honest to its runs at every width: what is shown holds every number, and a refusal has numbers that stop.
 -- So the stopping panel is lawful.
 use mathlib.Core.Path.{◌≡◌, refl, sym, ap, ◌∙◌, subst}
-use mathlib.Core.Logic.{◌≢◌, inl, inr}
-use mathlib.Core.Bool.{Bool, true, false}
 use Prim.Native.Nat.{ℕ}
 use native.Mathlib.Omega.{arith}
 use lib.IntN.{ℤ, pos}
 use lib.Signed.{◌≤ℤ◌}
 use mir.Syntax.{Width}
-use mir.Val.{SFits}
 use Rattle.refusal.specs.declared.Refusal.{Refusal}
-use Rattle.whole.specs.Choice.{pick}
-use Rattle.whole.specs.Test.{◌≟◌}
 use Rattle.whole.proofs.Linear.{ints}
 use Rattle.whole.proofs.Fits.{fits, zero-fits}
 use Rattle.whole.proofs.Decides.{branch, eq_test}
 use Rattle.interval.specs.declared.Interval.{Interval}
-use Rattle.interval.specs.Set.{◌⋯◌, Proper, single, ◌∈◌ as ◌∈ʳ◌}
+use Rattle.interval.specs.Set.{◌⋯◌, Proper, ◌∈◌ as ◌∈ʳ◌}
 use Rattle.interval.proofs.Rem.{proper, signs}
-use Rattle.interval.specs.Ported.{sign_of}
-use Rattle.congruence.specs.declared.Congruence.{Congruence}
-use Rattle.congruence.specs.Set.{cong, top, ◌∈◌ as ◌∈ˢ◌}
+use Rattle.congruence.specs.Set.{◌∈◌ as ◌∈ˢ◌}
 use Rattle.congruence.specs.Set.{Proper as ProperSpacing}
 use Rattle.congruence.proofs.Sets as sets
-use Rattle.sign.specs.Set.{◌∈◌ as ◌∈ᵍ◌}
 use Rattle.step.specs.declared.Operator.{Operator}
 use Rattle.step.specs.declared.Outcome.{Outcome}
-use Rattle.step.specs.declared.Outcome.TheVariants.{Gives, Stops}
+use Rattle.step.specs.declared.Outcome.TheVariants.{Gives}
 use Rattle.step.specs.declared.show.Shown.{Shown}
 use Rattle.step.specs.Run.{run_op}
-use Rattle.step.specs.Range.{Answered, shows, declines, range_op}
+use Rattle.step.specs.Range.{Answered, shows, declines}
 use Rattle.step.specs.Spacing.{spacing_op}
 use Rattle.step.specs.Signs.{sign_op}
 use Rattle.step.specs.declared.show.ShownAnswer.{ShownAnswer}
@@ -37,10 +29,10 @@ use Rattle.step.specs.declared.show.ShownAnswer.TheVariants as showns
 use Rattle.step.specs.declared.range.RangeAnswer.{RangeAnswer}
 use Rattle.step.specs.declared.range.RangeAnswer.TheVariants as ranges
 use Rattle.step.specs.Told.{range_told}
-use Rattle.step.specs.Show.{show_op, shown, beside, input_shown, zero_shown, shown_told}
+use Rattle.step.specs.Show.{show_op, shown, beside, input_shown, shown_told}
 use Rattle.step.specs.Valid.{ValidOperator}
-use Rattle.step.specs.Fair.{GivesIn, given, StopsOn, Fair, passes, refuses}
-use Rattle.step.specs.Panel.{Panel, Stopped, Honest, gives-in, stops-by, Lawful}
+use Rattle.step.specs.Fair.{GivesIn, given, Fair, passes, refuses}
+use Rattle.step.specs.Panel.{Stopped, Honest, gives-in, stops-by, Lawful}
 use Rattle.step.specs.Stopping.{InShown, GoodShown, stopping}
 use Rattle.step.proofs.Ranges.{fair, self}
 use Rattle.step.proofs.SignHas.{sign-has}

@@ -1,21 +1,15 @@
 -- Every operator's range is fair to its run.
-use mathlib.Core.Path.{◌≡◌, refl, sym, ◌∙◌, ap}
-use mathlib.Core.Logic.{◌≢◌, ◌⊎◌, inl, inr}
-use mathlib.Core.Bool.{Bool, true, false}
-use lib.IntN.{ℤ, pos, negsuc}
-use lib.Signed.{◌≤ℤ◌, ◌<ℤ◌, quot_z, rem_z}
+use lib.IntN.{ℤ, pos}
+use lib.Signed.{quot_z, rem_z}
 use mir.Syntax.{Width}
 use mir.Val.{SFits}
-use Rattle.refusal.specs.declared.Refusal.{Refusal}
 use Rattle.whole.specs.Choice.{pick}
-use Rattle.whole.specs.Test.{truth, ◌≟◌}
-use Rattle.whole.specs.Range.{least, greatest}
+use Rattle.whole.specs.Test.{◌≟◌}
 use Rattle.whole.proofs.Linear.{ints}
 use Rattle.whole.proofs.Fits.{fits}
 use Rattle.whole.proofs.Decides.{branch, le_test, lt_test, eq_test}
-use Rattle.refusal.specs.Answer.{Answer, is, refused}
 use Rattle.interval.specs.declared.Interval.{Interval}
-use Rattle.interval.specs.Set.{◌⋯◌, ◌∈◌, ◌∉◌, top, single, Proper, some}
+use Rattle.interval.specs.Set.{◌∈◌, ◌∉◌, top, single, Proper, some}
 use Rattle.interval.specs.Mended as M
 use Rattle.interval.specs.Mended.{join}
 use Rattle.interval.proofs.Test.{only-test, other}
@@ -27,12 +21,10 @@ use Rattle.interval.proofs.Claims.{add-exact, sub-exact, mul-exact, div-rule, re
 use Rattle.interval.proofs.ClaimsCanonical.{div-canonical, rem-canonical}
 use Rattle.step.specs.declared.Operator.{Operator}
 use Rattle.step.specs.declared.Operator.TheVariants.{Constant, Add, Sub, Mul, Div, Rem, Equals, And, Or, Less, Greater, LessOrEqual, GreaterOrEqual, Not, Same, Choose}
-use Rattle.step.specs.declared.Outcome.{Outcome}
-use Rattle.step.specs.declared.Outcome.TheVariants.{Gives, Stops}
 use Rattle.step.specs.Run.{run_op}
-use Rattle.step.specs.Range.{Answered, shows, declines, chosen_by, range_op}
+use Rattle.step.specs.Range.{chosen_by, range_op}
 use Rattle.step.specs.Valid.{ValidOperator}
-use Rattle.step.specs.Fair.{GivesIn, given, StopsOn, Fair, passes, refuses}
+use Rattle.step.specs.Fair.{Fair}
 use Rattle.step.proofs.Shapes.{sure, compared, arithmetic, division, Shows, shows-all, first, second, verdict-proper}
 
 pub self : (n : ℤ) → n ∈ single n

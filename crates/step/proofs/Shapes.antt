@@ -1,25 +1,25 @@
 -- The shapes that the operators have, each proved fair once: sure, fitting, divided, logical.
-use mathlib.Core.Path.{◌≡◌, refl, sym, ◌∙◌, ap}
-use mathlib.Core.Logic.{◌≢◌, ◌⊎◌, inl, inr, ⊎_map}
+use mathlib.Core.Path.{◌≡◌}
+use mathlib.Core.Logic.{◌⊎◌, inl, inr, ⊎_map}
 use mathlib.Core.Bool.{Bool, true, false, ◌&&◌}
 use lib.IntN.{ℤ, pos, negsuc}
-use lib.Signed.{◌≤ℤ◌, ◌<ℤ◌, quot_z, rem_z}
+use lib.Signed.{◌≤ℤ◌, quot_z}
 use mir.Syntax.{Width}
 use mir.Val.{SFits}
 use Rattle.refusal.specs.declared.Refusal.{Refusal}
-use Rattle.refusal.specs.declared.Refusal.TheVariants.{DivisorZero, ResultTooWide, NotLogical}
-use Rattle.whole.specs.Test.{◌≤?◌, ◌≟◌, truth}
-use Rattle.whole.specs.Range.{least, greatest}
+use Rattle.refusal.specs.declared.Refusal.TheVariants.{ResultTooWide, NotLogical}
+use Rattle.whole.specs.Test.{◌≤?◌, truth}
+use Rattle.whole.specs.Range.{least}
 use Rattle.whole.proofs.Linear.{ints}
 use Rattle.whole.proofs.Fits.{fits, low, high}
 use Rattle.whole.proofs.Decides.{Decides, branch, both, weaken, le_test, equal, unequal}
-use Rattle.refusal.specs.Answer.{Answer, is, refused}
+use Rattle.refusal.specs.Answer.{Answer, is}
 use Rattle.interval.specs.declared.Interval.{Interval}
-use Rattle.interval.specs.Set.{◌⋯◌, ◌∈◌, ◌∉◌, ◌∈?◌, top, single, Proper, Canonical, some, none}
+use Rattle.interval.specs.Set.{◌∈◌, ◌∉◌, top, single, Proper, Canonical, some, none}
 use Rattle.interval.specs.Mended.{verdict}
 use Rattle.interval.proofs.Test.{in-test, is-in, not_in, other}
 use Rattle.interval.specs.Results.{Covering, covering, refusing}
-use Rattle.interval.specs.Promise.{Exact, fitting, too_wide, Verdict, always, never, sometimes, Judged, judged, MinByMinusOne, Well, shown as well}
+use Rattle.interval.specs.Promise.{Exact, fitting, too_wide, Verdict, always, never, sometimes, Judged, judged, Well, shown as well}
 use Rattle.interval.proofs.Ends.{low-in, high-in}
 use Rattle.interval.proofs.Rem.{proper, signs, one-fits}
 use Rattle.interval.proofs.Canonical.{nothing}
@@ -29,7 +29,7 @@ use Rattle.step.specs.Run.{bits, divided, logical}
 use Rattle.step.specs.Range.{Answered, shows, declines, fitting_all, divided_all, logical_all}
 use Rattle.step.specs.declared.Outcome.{Outcome}
 use Rattle.step.specs.declared.Outcome.TheVariants.{Gives, Stops}
-use Rattle.step.specs.Fair.{GivesIn, given, StopsOn, Fair, passes, refuses}
+use Rattle.step.specs.Fair.{GivesIn, given, Fair, passes, refuses}
 
 in_top : {w : Width} {n : ℤ} → SFits w n → n ∈ top w
 in_top {w} {n} f = record { low = low w n f; high = high w n f }

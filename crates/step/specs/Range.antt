@@ -1,5 +1,5 @@
 -- The range that each operator shows, or its refusal by 12, 13 or 14: by the mended intervals of a width.
-use Rattle.std.specs.Prelude.{Bool, ◌&&◌, ℤ, pos, negsuc}
+use Rattle.std.specs.Prelude.{◌&&◌, pos, negsuc}
 use Rattle.std.specs.Int.{Width}
 use Rattle.refusal.specs.declared.Refusal.{Refusal}
 use Rattle.refusal.specs.declared.Refusal.TheVariants.{DivisorZero, ResultTooWide, NotLogical}

@@ -4,7 +4,6 @@ use mathlib.Core.Logic.{◌⊎◌, inl, inr}
 use mathlib.Core.Bool.{Bool, true, false, not, ◌&&◌, ◌||◌}
 use mathlib.Core.List.{List, [], ◌∷◌, map}
 use native.Mathlib.Omega.{arith}
-use Prim.Native.Nat.{ℕ}
 use lib.IntN.{ℤ, pos}
 use lib.Signed.{◌≤ℤ◌, ◌<ℤ◌}
 use mir.Syntax.{w64}
@@ -15,13 +14,9 @@ use Rattle.whole.specs.declared.Order.TheVariants.{Less, Equal, Greater, None}
 use Rattle.whole.proofs.Decides.{le_test, lt_test, both, either, is_false, yes}
 use Rattle.whole.proofs.Shapes.{lin}
 use Rattle.refusal.specs.Answer as answers
-use Rattle.refusal.proofs.Claims.{number-tells}
 use Rattle.interval.specs.declared.Interval.{Interval}
-use Rattle.interval.specs.declared.IntervalAnswer.{IntervalAnswer}
-use Rattle.interval.specs.declared.IntervalAnswer.TheVariants as ranges
 use Rattle.interval.specs.Set.{top}
 use Rattle.refusal.specs.Answer.{Answer, is, refused}
-use Rattle.interval.specs.Answer.{told}
 use Rattle.interval.specs.Mended.{and_v, or_v, not_v}
 use Rattle.interval.specs.Ported as I
 use Rattle.congruence.specs.declared.Congruence.{Congruence}
