@@ -1,7 +1,6 @@
 use Prim.Native.Nat.{ℕ}
 use mathlib.Core.Path.{◌≡◌, sym, ap, ◌∙◌}
 use mathlib.Core.List.{List}
-use lib.IntN.{ℤ}
 use lib.ListN.{length}
 use lib.Seq.{sets}
 use Rattle.sheet.specs.Got.{Got, fine, verdict_of}
@@ -13,30 +12,19 @@ use Rattle.sheet.proofs.read.Goals as goal
 use Rattle.sheet.proofs.read.Goals.{After-check_steps, In-Fine}
 
 -- after the count: the sheet is its steps
-abbrev S : After-check_steps → List ℕ
-S k = k.before.before.before.before.before.before.before.args.bytes.now
-
-abbrev O : After-check_steps → List ℤ
-O k = k.before.before.before.before.before.before.before.args.out.now
-
-abbrev N : After-check_steps → ℕ
-N k = k.before.before.before.n.given.0.0
-
-abbrev P : After-check_steps → ℕ
-P k = k.before.before.before.n.given.0.1.0
-
-counted : (k : After-check_steps) → parse (S k) ≡ steps_from (N k) (S k) 0 (P k)
-counted k = parse-count (S k) (N k) (P k) (sym k.first_number.ensures ∙ ap number_found k.in-Value.is) k.if-n-gt256.false
+counted : (k : After-check_steps) → parse k.args.bytes.now ≡ steps_from k.in-Value.n k.args.bytes.now 0 k.in-Value.p
+counted k = parse-count k.args.bytes.now k.in-Value.n k.in-Value.p (sym k.first_number.ensures ∙ ap number_found k.in-Value.is) k.if-n-gt256.false
 
 -- where the steps are right
-right : (t : In-Fine) → verdict_of (steps_from (N t.before.before) (S t.before.before) 0 (P t.before.before)) ≡ fine
+right : (t : In-Fine) → verdict_of (steps_from t.in-Value.n t.args.bytes.now 0 t.in-Value.p) ≡ fine
 right t = sym t.check_steps.ensures ∙ ap check_found t.in-Fine.is
 
-right' : (t : In-Fine) → verdict_of (parse (S t.before.before)) ≡ fine
-right' t = rw (counted t.before.before) (right t)
+module _ (s : List ℕ) (n p : ℕ) (e : parse s ≡ steps_from n s 0 p) (h : verdict_of (steps_from n s 0 p) ≡ fine) where
+  right' : verdict_of (parse s) ≡ fine
+  right' = rw e h
 
-long : (t : In-Fine) → length (steps_in (parse (S t.before.before))) ≡ N t.before.before
-long t = rw (counted t.before.before) (steps-length (N t.before.before) (S t.before.before) 0 (P t.before.before) (right t))
+  long : length (steps_in (parse s)) ≡ n
+  long = rw e (steps-length n s 0 p h)
 
 pub returns-then-n-gt256 : goal.returns-then-n-gt256
 returns-then-n-gt256 c =
@@ -45,24 +33,31 @@ returns-then-n-gt256 c =
 
 pub returns-then-out-count : goal.returns-then-out-count
 returns-then-out-count c =
-    let t = c.before in
-    no_room (S t.before.before) (O t.before.before) (N t.before.before) (right' t) (long t) c.if-out-count.true
+    let s = c.args.bytes.now in
+    let n = c.in-Value.n in
+    let p = c.in-Value.p in
+    let e = counted (goal.at.returns-then-out-count c).After-check_steps in
+    let h = right (goal.at.returns-then-out-count c).In-Fine in
+    no_room s c.args.out.now n (right' s n p e h) (long s n p e h) c.if-out-count.true
 
 pub fill_steps-requires : goal.fill_steps-requires
-fill_steps-requires c =
-    let t = c.before.before in
-    (t.if-n-gt256.false, c.if-out-count.false, right t)
+fill_steps-requires c = (c.if-n-gt256.false, c.if-out-count.false, right (goal.at.fill_steps-requires c).In-Fine)
 
 pub returns-else-out-count : goal.returns-else-out-count
 returns-else-out-count c =
-    let t = c.before.before.before.before in
-    let r = room (S t.before.before) (O t.before.before) (N t.before.before) (right' t) (long t) c.if-out-count.false in
-    (r.0, c.fill_steps.ensures ∙ ap (λ (x : Got (List Step)). sets (O t.before.before) 0 (flat (steps_in x))) (sym (counted t.before.before)) ∙ r.1)
+    let s = c.args.bytes.now in
+    let n = c.in-Value.n in
+    let p = c.in-Value.p in
+    let e = counted (goal.at.returns-else-out-count c).After-check_steps in
+    let h = right (goal.at.returns-else-out-count c).In-Fine in
+    let r = room s c.args.out.now n (right' s n p e h) (long s n p e h) c.if-out-count.false in
+    (r.0, c.fill_steps.ensures ∙ ap (λ (x : Got (List Step)). sets c.args.out.now 0 (flat (steps_in x))) (sym e) ∙ r.1)
 
 pub returns-in-Wrong : goal.returns-in-Wrong
 returns-in-Wrong c =
-    let k = c.before.before.before in
-    read-refused (S k) (O k) _ _ (counted k ∙ refused-of (steps_from (N k) (S k) 0 (P k)) _ _ (sym k.check_steps.ensures ∙ ap check_found c.in-Wrong.is))
+    let s = c.args.bytes.now in
+    let e = counted (goal.at.returns-in-Wrong c).After-check_steps in
+    read-refused s c.args.out.now _ _ (e ∙ refused-of (steps_from c.in-Value.n s 0 c.in-Value.p) _ _ (sym c.check_steps.ensures ∙ ap check_found c.in-Wrong.is))
 
 pub returns-in-Refused : goal.returns-in-Refused
 returns-in-Refused c =

@@ -5,38 +5,18 @@ use Rattle.sheet.specs.Found.{check_found}
 use Rattle.sheet.specs.Sheet.{steps_of, steps_fault, bytes_of}
 use Rattle.sheet.specs.Got.{fine}
 use lib.ListN.{length}
-use lib.IntN.{ℤ}
 use native.Mathlib.Omega.{arith}
-use mathlib.Core.List.{List}
 use mathlib.Core.Path.{◌≡◌, sym, ap, ◌∙◌}
-use Prim.Native.Nat.{ℕ, ◌+◌, ◌/◌}
+use Prim.Native.Nat.{◌+◌, ◌/◌}
 use Rattle.sheet.proofs.write.Goals as goal
-use Rattle.sheet.proofs.write.Goals.{After-listed_width, Else-n-gt256, In-Fine, Start}
+use Rattle.sheet.proofs.write.Goals.{After-listed_width, In-Fine}
 
 -- where the list is even, short enough and right
-abbrev start : Else-n-gt256 → Start
-start w = w.before.before.before
-
-abbrev L : Else-n-gt256 → List ℤ
-L w = (start w).args.steps.now
-
-abbrev O : Else-n-gt256 → List ℕ
-O w = (start w).args.out.now
-
-right : (t : In-Fine) → steps_fault 0 (steps_of (L t.before.before.before)) ≡ fine
+right : (t : In-Fine) → steps_fault 0 (steps_of t.args.steps.now) ≡ fine
 right t = sym t.check_listed.ensures ∙ ap check_found t.in-Fine.is
 
-abbrev fine_at : After-listed_width → In-Fine
-fine_at w = w.before.before
-
-abbrev else : After-listed_width → Else-n-gt256
-else w = (fine_at w).before.before.before
-
-sized : (w : After-listed_width) → w.width.result + w.listed_width.result ≡ length (bytes_of (steps_of (L (else w))))
-sized w =
-    let l = L (else w) in
-    let e = else w in
-    omega (arith, w.width.ensures, w.listed_width.ensures, write-size l (O e) e.before.if1.left e.if2.left (right (fine_at w)))
+sized : (w : After-listed_width) → steps_fault 0 (steps_of w.args.steps.now) ≡ fine → w.width.result + w.listed_width.result ≡ length (bytes_of (steps_of w.args.steps.now))
+sized w f = omega (arith, w.width.ensures, w.listed_width.ensures, write-size w.args.steps.now w.args.out.now w.if-steps-ne0.false w.if-n-gt256.false f)
 
 pub returns-then-steps-ne0 : goal.returns-then-steps-ne0
 returns-then-steps-ne0 c =
@@ -50,25 +30,28 @@ returns-then-n-gt256 c =
 
 pub overflow_add-size : goal.overflow_add-size
 overflow_add-size c =
-    let l = L (else c) in
+    let l = c.args.steps.now in
     let w = number_size (length l / 4) in
     let s = listed-bound (steps_of l) in
-    record { fits = omega (arith, c.width.ensures, w, c.listed_width.ensures, s, steps-count l, (else c).if2.false) }
+    record { fits = omega (arith, c.width.ensures, w, c.listed_width.ensures, s, steps-count l, c.if-n-gt256.false) }
 
 pub returns-then-out-size : goal.returns-then-out-size
 returns-then-out-size c =
-    let w = c.before in
-    let e = else w in
-    write-short (L e) (O e) e.before.if1.left e.if2.left (right (fine_at w)) (rw (sized w) at c.if-out-size.true)
+    let a = c.args in
+    let f = right (goal.at.returns-then-out-size c).In-Fine in
+    let z = sized (goal.at.returns-then-out-size c).After-listed_width f in
+    write-short a.steps.now a.out.now c.if-steps-ne0.false c.if-n-gt256.false f (rw z at c.if-out-size.true)
 
 pub returns-else-out-size : goal.returns-else-out-size
 returns-else-out-size c =
-    let w = c.before.before.before.before.before.before.before.before.before in
-    let e = else w in
-    let r = write-long (L e) (O e) e.before.if1.left e.if2.left (right (fine_at w)) _ (sized w) c.if-out-size.false in
-    (r.0, write-stored (L e) (O e) e.before.if1.left e.if2.left (right (fine_at w)) c.fill_number-at.result c.fill_number-at.new.0 _ c.fill_number-at.ensures c.fill_listed.ensures ∙ r.1)
+    let l = c.args.steps.now in
+    let o = c.args.out.now in
+    let f = right (goal.at.returns-else-out-size c).In-Fine in
+    let z = sized (goal.at.returns-else-out-size c).After-listed_width f in
+    let r = write-long l o c.if-steps-ne0.false c.if-n-gt256.false f _ z c.if-out-size.false in
+    (r.0, write-stored l o c.if-steps-ne0.false c.if-n-gt256.false f c.fill_number-at.result c.fill_number-at.new.out _ c.fill_number-at.ensures c.fill_listed.ensures ∙ r.1)
 
 pub returns-in-Wrong : goal.returns-in-Wrong
 returns-in-Wrong c =
-    let w = c.before.before.before.before in
-    write-wrong (L w) (O w) w.if-steps-ne0.false w.if-n-gt256.false _ _ (sym c.check_listed.ensures ∙ ap check_found c.in-Wrong.is)
+    let a = c.args in
+    write-wrong a.steps.now a.out.now c.if-steps-ne0.false c.if-n-gt256.false _ _ (sym c.check_listed.ensures ∙ ap check_found c.in-Wrong.is)

@@ -2,7 +2,7 @@ use Rattle.whole.specs.Whole.{up}
 use Rattle.whole.specs.Test.{◌<?◌}
 use borrow.Author.Tests.{lt-ltb, le-ltb}
 use lib.IntN.{pos}
-use mathlib.Core.Bool.{true, false}
+use mathlib.Core.Bool.{false}
 use Prim.Native.Nat.{◌≤◌, ◌<◌}
 use Rattle.whole.proofs.Flags.{flags}
 use Rattle.sheet.specs.Step.{step_fault}

@@ -1,4 +1,4 @@
-use Prim.Native.Nat.{◌≤◌, ◌<◌, ◌-◌, ◌%◌}
+use Prim.Native.Nat.{◌≤◌, ◌<◌, ◌%◌}
 use mathlib.Core.Path.{◌≡◌, refl, sym, ◌∙◌}
 use lib.ListN.{get_or}
 use Rattle.sheet.proofs.Groups.{too_many, ended, group-bits, code-too-large, code-goes-on, code-last, code-one-too-many}
@@ -6,33 +6,30 @@ use native.Mathlib.Omega.{arith}
 use borrow.Author.Rules.{rules}
 use Rattle.sheet.specs.Number.{read_number}
 use Rattle.sheet.proofs.number.read_number.Goals as goal
-use Rattle.sheet.proofs.number.read_number.Goals.{After-wide-b, At-loop-shift}
+use Rattle.sheet.proofs.number.read_number.Goals.{After-wide-b}
 
 pub loop-shift-init : goal.loop-shift-init
 unfolding read_number
 loop-shift-init c = (search rules, search rules, search rules, refl)
 
 -- what a turn knows of the byte at i, whose number is `wide`'s result
-abbrev looping : After-wide-b invariant-loop decreases-loop → At-loop-shift invariant-loop decreases-loop
-looping w = w.before.before.before.before
-
-byte : (w : After-wide-b invariant-loop decreases-loop) → w.wide-b.result ≡ get_or (looping w).before.before.args.s.now (looping w).loop.i 0
+byte : (w : After-wide-b) → w.wide-b.result ≡ get_or w.args.s.now w.loop-shift.i 0
 byte w = w.wide-b.ensures
 
-byte_fits : (w : After-wide-b invariant-loop decreases-loop) → w.wide-b.result < 256
-byte_fits w = omega (arith, w.shared_slice_known-in-loop-shift-1.given (looping w).loop.i, byte w)
+byte_fits : (w : After-wide-b) → w.wide-b.result < 256
+byte_fits w = omega (arith, w.type_inv.s w.loop-shift.i, byte w)
 
 pub loop-shift-preserved : goal.loop-shift-preserved
 loop-shift-preserved c =
-    let w = c.before.before in
-    let x = (looping w).loop in
-    let a = (looping w).before.before.args in
+    let w = (goal.at.loop-shift-preserved c).After-wide-b in
+    let x = w.loop-shift in
+    let a = w.args in
     let left : x.shift ≤ 63 = w.if-shift-gt63.false in
-    let sevens : x.shift % 7 ≡ 0 = x.inv.1 in (
+    let sevens : x.shift % 7 ≡ 0 = x.invariant.1 in (
       omega (arith, left),
       omega (arith, sevens),
-      group-bits w.wide-b.result x.shift x.value c.if-part-shift.false x.inv.2,
-      x.inv.3 ∙ code-goes-on a.s.now a.at x.i x.shift x.value w.wide-b.result (byte w) (byte_fits w) w.if-shift-gt63.false w.if-s-i.false c.if-part-shift.false x.inv.2 c.if-b-lt128.false,
+      group-bits w.wide-b.result x.shift x.value c.if-part-shift.false x.invariant.2,
+      x.invariant.3 ∙ code-goes-on a.s.now a.at x.i x.shift x.value w.wide-b.result (byte w) (byte_fits w) w.if-shift-gt63.false w.if-s-i.false c.if-part-shift.false x.invariant.2 c.if-b-lt128.false,
     )
 
 pub returns-then-shift-gt63 : goal.returns-then-shift-gt63
@@ -49,29 +46,29 @@ returns-then-s-i c =
 
 pub returns-then-part-shift : goal.returns-then-part-shift
 returns-then-part-shift c =
-    let w = c.before in
-    let x = (looping w).loop in
-    let a = (looping w).before.before.args in
-    sym (x.inv.3 ∙ code-too-large a.s.now a.at x.i x.shift x.value w.wide-b.result (byte w) (byte_fits w) w.if-shift-gt63.false w.if-s-i.false x.inv.1 c.if-part-shift.true)
+    let w = (goal.at.returns-then-part-shift c).After-wide-b in
+    let x = w.loop-shift in
+    let a = w.args in
+    sym (x.invariant.3 ∙ code-too-large a.s.now a.at x.i x.shift x.value w.wide-b.result (byte w) (byte_fits w) w.if-shift-gt63.false w.if-s-i.false x.invariant.1 c.if-part-shift.true)
 
 pub returns-then-shift-gt0 : goal.returns-then-shift-gt0
 returns-then-shift-gt0 c =
-    let w = c.before.before.before.before in
-    let x = (looping w).loop in
-    let a = (looping w).before.before.args in
-    sym (x.inv.3 ∙ code-one-too-many a.s.now a.at x.i x.shift x.value w.wide-b.result (byte w) (byte_fits w) w.if-shift-gt63.false w.if-s-i.false c.if-b-eq0.true c.if-shift-gt0.true)
+    let w = (goal.at.returns-then-shift-gt0 c).After-wide-b in
+    let x = w.loop-shift in
+    let a = w.args in
+    sym (x.invariant.3 ∙ code-one-too-many a.s.now a.at x.i x.shift x.value w.wide-b.result (byte w) (byte_fits w) w.if-shift-gt63.false w.if-s-i.false c.if-b-eq0.true c.if-shift-gt0.true)
 
 pub returns-else-shift-gt0 : goal.returns-else-shift-gt0
 returns-else-shift-gt0 c =
-    let w = c.before.before.before.before in
-    let x = (looping w).loop in
-    let a = (looping w).before.before.args in
+    let w = (goal.at.returns-else-shift-gt0 c).After-wide-b in
+    let x = w.loop-shift in
+    let a = w.args in
     let none : x.shift ≡ 0 = omega (arith, c.if-shift-gt0.false) in
-    sym (x.inv.3 ∙ code-last a.s.now a.at x.i x.shift x.value w.wide-b.result (byte w) (byte_fits w) w.if-shift-gt63.false w.if-s-i.false c.if-part-shift.false x.inv.2 c.if-b-lt128.true (λ _. none))
+    sym (x.invariant.3 ∙ code-last a.s.now a.at x.i x.shift x.value w.wide-b.result (byte w) (byte_fits w) w.if-shift-gt63.false w.if-s-i.false c.if-part-shift.false x.invariant.2 c.if-b-lt128.true (λ _. none))
 
 pub returns-else-b-eq0 : goal.returns-else-b-eq0
 returns-else-b-eq0 c =
-    let w = c.before.before.before in
-    let x = (looping w).loop in
-    let a = (looping w).before.before.args in
-    sym (x.inv.3 ∙ code-last a.s.now a.at x.i x.shift x.value w.wide-b.result (byte w) (byte_fits w) w.if-shift-gt63.false w.if-s-i.false c.if-part-shift.false x.inv.2 c.if-b-lt128.true (λ z. absurd (c.if-b-eq0.false z)))
+    let w = (goal.at.returns-else-b-eq0 c).After-wide-b in
+    let x = w.loop-shift in
+    let a = w.args in
+    sym (x.invariant.3 ∙ code-last a.s.now a.at x.i x.shift x.value w.wide-b.result (byte w) (byte_fits w) w.if-shift-gt63.false w.if-s-i.false c.if-part-shift.false x.invariant.2 c.if-b-lt128.true (λ z. absurd (c.if-b-eq0.false z)))

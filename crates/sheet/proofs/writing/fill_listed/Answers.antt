@@ -2,7 +2,6 @@ use Rattle.sheet.proofs.Listed.{fourth, bytes_next, bytes-ended, sets-append}
 use lib.Seq.{length-sets}
 use Rattle.sheet.specs.Sheet.{steps_bytes, steps_of}
 use Rattle.sheet.specs.Step.{step_bytes}
-use mir.ValLaws.{to_z-of_z}
 use mir.Val.{of_z, to_z}
 use mir.Syntax.{w64}
 use lib.ListN.{length, drop, get_or, length-append}
@@ -10,57 +9,49 @@ use lib.IntN.{pos}
 use native.Mathlib.Omega.{arith}
 use mathlib.Core.List.{◌++◌}
 use mathlib.Core.Path.{◌≡◌, refl, sym, ap, ◌∙◌}
-use Prim.Native.Nat.{◌+◌, ◌-◌, ◌*◌}
+use Prim.Native.Nat.{◌+◌, ◌*◌}
 use borrow.Author.Rules.{rules}
 use Rattle.sheet.proofs.writing.fill_listed.Goals as goal
-use Rattle.sheet.proofs.writing.fill_listed.Goals.{After-fill_step-arg-in-loop-k-4-1, In-loop-k, Start}
-
--- the four numbers of a turn, as they are handed on
-abbrev looping : After-fill_step-arg-in-loop-k-4-1 invariant-loop decreases-loop → In-loop-k invariant-loop decreases-loop
-looping w = w.before.before.before.before.before
-
-abbrev start : After-fill_step-arg-in-loop-k-4-1 invariant-loop decreases-loop → Start invariant-loop decreases-loop
-start w = (looping w).before.before.before
-
-same : (w : After-fill_step-arg-in-loop-k-4-1 invariant-loop decreases-loop) →
-    (to_z w64 (of_z w64 (get_or (start w).args.steps.now ((looping w).before.loop.k * 4) (pos 0))) ≡ get_or (start w).args.steps.now ((looping w).before.loop.k * 4) (pos 0))
-    × (to_z w64 (of_z w64 (get_or (start w).args.steps.now ((looping w).before.loop.k * 4 + 1) (pos 0))) ≡ get_or (start w).args.steps.now ((looping w).before.loop.k * 4 + 1) (pos 0))
-    × (to_z w64 (of_z w64 (get_or (start w).args.steps.now ((looping w).before.loop.k * 4 + 2) (pos 0))) ≡ get_or (start w).args.steps.now ((looping w).before.loop.k * 4 + 2) (pos 0))
-    × (to_z w64 (of_z w64 (get_or (start w).args.steps.now ((looping w).before.loop.k * 4 + 3) (pos 0))) ≡ get_or (start w).args.steps.now ((looping w).before.loop.k * 4 + 3) (pos 0))
-same w = (
-  to_z-of_z w64 _ (record { sfits = w.fill_step-arg-in-loop-k-1.given }),
-  to_z-of_z w64 _ (record { sfits = w.fill_step-arg-in-loop-k-2-1.given }),
-  to_z-of_z w64 _ (record { sfits = w.fill_step-arg-in-loop-k-3-1.given }),
-  to_z-of_z w64 _ (record { sfits = w.fill_step-arg-in-loop-k-4-1.given }),
-)
+use Rattle.sheet.proofs.writing.fill_listed.Goals.{In-loop-k}
 
 -- the bytes of a turn, and those that are left
-more : (w : After-fill_step-arg-in-loop-k-4-1 invariant-loop decreases-loop) → steps_bytes (steps_of (drop ((looping w).before.loop.k * 4) (start w).args.steps.now)) ≡ step_bytes (fourth (start w).args.steps.now (looping w).before.loop.k) ++ steps_bytes (steps_of (drop (((looping w).before.loop.k + 1) * 4) (start w).args.steps.now))
-more w = bytes_next (start w).args.steps.now (start w).args.n (looping w).before.loop.k (start w).requires.1 (looping w).loop-test.true
+more : (w : In-loop-k) → steps_bytes (steps_of (drop (w.loop-k.k * 4) w.args.steps.now)) ≡ step_bytes (fourth w.args.steps.now w.loop-k.k) ++ steps_bytes (steps_of (drop ((w.loop-k.k + 1) * 4) w.args.steps.now))
+more w = bytes_next w.args.steps.now w.args.n w.loop-k.k w.requires.1 w.loop-k-test.true
 
 pub loop-k-init : goal.loop-k-init
 loop-k-init c = (search rules, refl, c.requires.2, refl)
 
 pub fill_step-at-requires : goal.fill_step-at-requires
 fill_step-at-requires c =
-    let x = (looping c).before.loop in
-    let e = same c in
-    rw (e.0, e.1, e.2, e.3) (omega (arith, simp length-append at (ap length (more c)), x.inv.1, x.inv.2))
+    let w = (goal.at.fill_step-at-requires c).In-loop-k in
+    let x = c.loop-k in
+    let l = c.args.steps.now in
+    let i = c.loop-k.k * 4 in
+    let e₀ : to_z w64 (of_z w64 (get_or l i (pos 0))) ≡ get_or l i (pos 0) = search rules in
+    let e₁ : to_z w64 (of_z w64 (get_or l (i + 1) (pos 0))) ≡ get_or l (i + 1) (pos 0) = search rules in
+    let e₂ : to_z w64 (of_z w64 (get_or l (i + 2) (pos 0))) ≡ get_or l (i + 2) (pos 0) = search rules in
+    let e₃ : to_z w64 (of_z w64 (get_or l (i + 3) (pos 0))) ≡ get_or l (i + 3) (pos 0) = search rules in
+    rw (e₀, e₁, e₂, e₃) (omega (arith, simp length-append at (ap length (more w)), x.invariant.1, x.invariant.2))
 
 pub loop-k-smaller : goal.loop-k-smaller
 loop-k-smaller c = omega arith
 
 pub loop-k-preserved : goal.loop-k-preserved
 loop-k-preserved c =
-    let v = c.before.before.before in
-    let x = (looping v).before.loop in
-    let e = same v in
-    let r = rw (e.0, e.1, e.2, e.3) at c.fill_step-at.ensures.0 in
-    let o = rw (e.0, e.1, e.2, e.3) at c.fill_step-at.ensures.1 in (
+    let v = (goal.at.loop-k-preserved c).In-loop-k in
+    let x = v.loop-k in
+    let l = c.args.steps.now in
+    let i = c.loop-k.k * 4 in
+    let e₀ : to_z w64 (of_z w64 (get_or l i (pos 0))) ≡ get_or l i (pos 0) = search rules in
+    let e₁ : to_z w64 (of_z w64 (get_or l (i + 1) (pos 0))) ≡ get_or l (i + 1) (pos 0) = search rules in
+    let e₂ : to_z w64 (of_z w64 (get_or l (i + 2) (pos 0))) ≡ get_or l (i + 2) (pos 0) = search rules in
+    let e₃ : to_z w64 (of_z w64 (get_or l (i + 3) (pos 0))) ≡ get_or l (i + 3) (pos 0) = search rules in
+    let r = rw (e₀, e₁, e₂, e₃) at c.fill_step-at.ensures.0 in
+    let o = rw (e₀, e₁, e₂, e₃) at c.fill_step-at.ensures.1 in (
       omega arith,
-      rw (o, length-sets) x.inv.1,
-      omega (arith, simp length-append at (ap length (more v)), r, x.inv.2),
-      x.inv.3 ∙ rw (more v, r, o) (sets-append (step_bytes (fourth (start v).args.steps.now x.k)) (steps_bytes (steps_of (drop ((x.k + 1) * 4) (start v).args.steps.now))) x.out x.at),
+      rw (o, length-sets) x.invariant.1,
+      omega (arith, simp length-append at (ap length (more v)), r, x.invariant.2),
+      x.invariant.3 ∙ rw (more v, r, o) (sets-append (step_bytes (fourth v.args.steps.now x.k)) (steps_bytes (steps_of (drop ((x.k + 1) * 4) v.args.steps.now))) x.out x.at),
     )
 
 pub shape_of-out : goal.shape_of-out

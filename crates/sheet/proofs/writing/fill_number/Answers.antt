@@ -16,41 +16,41 @@ loop-m-init c =
     let e : c.args.at - c.args.at ≡ 0 = omega arith in
     (search rules, search rules, rw e (search rules), refl, rw e c.requires, rw e, rw e)
 
-not_last : (c : In-loop-m invariant-loop decreases-loop) → c.loop-m.i - c.args.at < 9
+not_last : (c : In-loop-m) → c.loop-m.i - c.args.at < 9
 not_last c =
     let x = c.loop-m in
     not-tenth (x.i - c.args.at) x.m (omega arith) x.invariant.2 c.loop-m-test.true
 
-more : (c : In-loop-m invariant-loop decreases-loop) → groups_of (9 - (c.loop-m.i - c.args.at)) c.loop-m.m ≡ (128 + c.loop-m.m % 128) ∷ groups_of (9 - (c.loop-m.i - c.args.at + 1)) (c.loop-m.m / 128)
+more : (c : In-loop-m) → groups_of (9 - (c.loop-m.i - c.args.at)) c.loop-m.m ≡ (128 + c.loop-m.m % 128) ∷ groups_of (9 - (c.loop-m.i - c.args.at + 1)) (c.loop-m.m / 128)
 more c = groups-more (c.loop-m.i - c.args.at) c.loop-m.m (not_last c) c.loop-m-test.true
 
-within : (c : In-loop-m invariant-loop decreases-loop) → c.loop-m.i < length c.loop-m.out
+within : (c : In-loop-m) → c.loop-m.i < length c.loop-m.out
 within c = omega (arith, ap length (more c), c.loop-m.invariant.4, c.loop-m.invariant.3)
 
 pub overflow_cast-out : goal.overflow_cast-out
 overflow_cast-out c = rw top_set (omega arith)
 
 pub bounds-out-i : goal.bounds-out-i
-bounds-out-i c = within c
+bounds-out-i c = within (goal.at.bounds-out-i c).In-loop-m
 
 pub loop-m-smaller : goal.loop-m-smaller
 loop-m-smaller c =
-    let x = c.loop-m in
-    omega (arith, not_last c)
+    omega (arith, not_last (goal.at.loop-m-smaller c).In-loop-m)
 
 pub loop-m-preserved : goal.loop-m-preserved
 loop-m-preserved c =
+    let w = (goal.at.loop-m-preserved c).In-loop-m in
     let x = c.loop-m in
     let a = c.args in
-    let lt : x.i - a.at < 9 = not_last c in
+    let lt : x.i - a.at < 9 = not_last w in
     let e : x.i + 1 - a.at ≡ x.i - a.at + 1 = omega arith in (
       omega arith,
       omega arith,
       rw e (shorter (x.i - a.at) x.m lt x.invariant.2),
       simp length-set x.invariant.3,
-      rw e (omega (arith, ap length (more c), x.invariant.4)),
-      x.invariant.5 ∙ rw (e, more c, top_set, add-one x.i),
-      rw e (omega (arith, ap length (more c), x.invariant.6)),
+      rw e (omega (arith, ap length (more w), x.invariant.4)),
+      x.invariant.5 ∙ rw (e, more w, top_set, add-one x.i),
+      rw e (omega (arith, ap length (more w), x.invariant.6)),
     )
 
 pub bounds-out-i-2 : goal.bounds-out-i-2

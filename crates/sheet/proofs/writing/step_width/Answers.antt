@@ -11,13 +11,12 @@ use Rattle.sheet.proofs.writing.step_width.Goals.{After-width}
 
 -- each part is at most ten bytes long
 small : (c : After-width) → (c.width.result ≤ 10) × (c.field_width-a.result ≤ 10) × (c.field_width-b.result ≤ 10) × (c.field_width-c.result ≤ 10)
-small c =
-    (
-      rw c.width.ensures (number_size c.natural-o.result),
-      rw c.field_width-a.ensures (field-size c.first.result (to_z w64 (of_z w64 c.args.x))),
-      rw c.field_width-b.ensures (field-size c.second.result (to_z w64 (of_z w64 c.args.y))),
-      rw c.field_width-c.ensures (field-size c.third.result (to_z w64 (of_z w64 c.args.z))),
-    )
+small c = (
+  rw c.width.ensures (number_size c.natural-o.result),
+  rw c.field_width-a.ensures (field-size c.first.result (to_z w64 (of_z w64 c.args.x))),
+  rw c.field_width-b.ensures (field-size c.second.result (to_z w64 (of_z w64 c.args.y))),
+  rw c.field_width-c.ensures (field-size c.third.result (to_z w64 (of_z w64 c.args.z))),
+)
 
 pub overflow_add-result : goal.overflow_add-result
 overflow_add-result c = record { fits = omega (arith, small c) }
