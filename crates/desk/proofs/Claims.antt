@@ -1,14 +1,14 @@
 -- Demand 3 at every width, for sheets whose numbers fit it, and so at 64 bits for all sheets that are read; for the answers of `check` and `run` too; what is answered is determined.
-use mathlib.Core.Path.{◌≡◌, refl, sym, ap, ◌∙◌, subst}
+use mathlib.Core.Path.{◌≡◌, refl, sym, ap, ◌∙◌}
 use mathlib.Core.Logic.{◌≢◌}
 use mathlib.Core.Bool.{Bool, true, false}
 use mathlib.Core.List.{List, [], ◌∷◌, ◌++◌}
-use Prim.Native.Nat.{ℕ, zero, suc, ◌+◌, ◌*◌, ◌≤◌, ◌<◌}
+use Prim.Native.Nat.{ℕ, suc, ◌+◌, ◌*◌, ◌≤◌}
 use native.Mathlib.Omega.{arith}
 use borrow.Author.Tests.{leb-true}
 use lib.Dec.{leb}
 use lib.IntN.{ℤ, pos}
-use lib.ListN.{length, get_or, take, drop, length-append, get_or-append}
+use lib.ListN.{length, get_or, take, length-append, get_or-append}
 use lib.Seq.{sets, sets-eq, take_at}
 use mir.Syntax.{Width, w64}
 use Rattle.refusal.specs.declared.Refusal.{Refusal}
@@ -21,12 +21,11 @@ use Rattle.sheet.specs.Step.{Step}
 use Rattle.sheet.specs.Sheet.{parse}
 use Rattle.sheet.proofs.Claims.{read-valid}
 use Rattle.step.specs.declared.show.Shown.{Shown}
-use Rattle.step.specs.declared.Action.{Action}
 use Rattle.step.specs.Show.{zero_shown}
 use Rattle.step.specs.Run.{run_op}
-use Rattle.step.specs.Stopping.{InShown, stopping}
+use Rattle.step.specs.Stopping.{stopping}
 use Rattle.step.proofs.Claims.{lawful}
-use Rattle.panel.specs.Run.{actions_of, suits?, run_sheet}
+use Rattle.panel.specs.Run.{actions_of, run_sheet}
 use Rattle.panel.specs.Answer.{ended_with, run_told, RanAt, Ran}
 use Rattle.panel.specs.declared.RunAnswer.{RunAnswer}
 use Rattle.panel.specs.declared.RunAnswer.TheVariants.{Ended}
@@ -36,12 +35,12 @@ use Rattle.panel.proofs.Answers.{runs-read, ran-suited}
 use Rattle.desk.specs.Check.{Check, passed, refused_at, shown_by, check_from, check_sheet}
 use Rattle.desk.specs.Five.{flat, shown_in}
 use Rattle.desk.specs.Promise.{AllValid, AllGood, Suits, Each, none, next, Ends, StopsAfter}
-use Rattle.desk.specs.Answer.{Told, passed_with, at_step, at_byte, refused_by, check_told, Result, nothing, result_of, checked_on, checking, CheckedAt, Checked}
+use Rattle.desk.specs.Answer.{Told, passed_with, at_step, at_byte, refused_by, check_told, Result, nothing, result_of, checked_on, CheckedAt, Checked}
 use Rattle.desk.specs.Kept.{InRanges, Reaches, StopsThereAt, StopsThere, Within}
 use Rattle.desk.specs.declared.CheckAnswer.{CheckAnswer}
 use Rattle.desk.specs.declared.CheckAnswer.TheVariants.{Passed, RefusedAtStep, RefusedAt, Refused}
 use Rattle.desk.proofs.ClaimsDemand as Demand
-use Rattle.desk.proofs.Taken.{all_valid, suits-means, suits-tells}
+use Rattle.desk.proofs.Taken.{all_valid, suits-tells}
 use Rattle.desk.proofs.Fives.{length-flat, found}
 use Rattle.desk.proofs.Answers.{checks-read, checks-refused}
 

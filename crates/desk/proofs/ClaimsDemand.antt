@@ -1,21 +1,20 @@
 -- Demand 3, for every lawful panel.
-use mathlib.Core.Path.{◌≡◌, refl, sym, ◌∙◌, ap}
+use mathlib.Core.Path.{◌≡◌, refl, sym, ap}
 use mathlib.Core.List.{List, [], ◌∷◌, ◌++◌}
 use Prim.Native.Nat.{ℕ, zero, suc, ◌+◌}
 use native.Mathlib.Nat.{add-zero}
 use native.Mathlib.Omega.{arith}
-use lib.IntN.{ℤ, pos}
-use lib.ListN.{length, drop, length-append}
+use lib.IntN.{ℤ}
+use lib.ListN.{length, length-append}
 use Rattle.refusal.specs.declared.Refusal.{Refusal}
 use Rattle.step.specs.Panel.{Panel, Honest, gives-in, stops-by, Lawful}
 use Rattle.step.specs.Range.{Answered, shows, declines}
-use Rattle.step.specs.declared.Outcome.{Outcome}
-use Rattle.step.specs.declared.Outcome.TheVariants.{Gives, Stops}
+use Rattle.step.specs.declared.Outcome.TheVariants.{Gives}
 use Rattle.step.specs.declared.Action.{Action}
 use Rattle.step.specs.declared.Action.TheVariants.{Input, Does}
-use Rattle.panel.specs.Run.{at, Run, ended, stopped_at, run_step, takes, run_on, run_from}
-use Rattle.desk.specs.Check.{shown_at, Check, passed, refused_at, shown_by, check_step, check_on, check_from}
-use Rattle.desk.specs.Promise.{ValidAction, AllValid, none as no_step, next as and_step, Takes, Suits, AllGood, nil, cons, Each, none, next, Ends, StepStops, stopping, StopsAfter}
+use Rattle.panel.specs.Run.{at, run_step, run_from}
+use Rattle.desk.specs.Check.{shown_at, passed, refused_at, shown_by, check_step, check_on, check_from}
+use Rattle.desk.specs.Promise.{ValidAction, AllValid, next as and_step, Takes, Suits, AllGood, nil, cons, Each, none, next, Ends, StepStops, stopping, StopsAfter}
 
 differ : {S : Type 0} {vs us : List S} {r : Refusal} → passed vs ≡ refused_at us r → ⊥
 differ e = let z : ◌≡◌ {A = ℕ} 0 1 = cc in omega arith

@@ -1,10 +1,7 @@
 -- The fourteen numbers of document 01, worked out by the definitions.
 use mathlib.Core.Path.{◌≡◌, refl, ap, ◌∙◌}
 use mathlib.Core.List.{List, [], ◌∷◌}
-use Prim.Native.Nat.{ℕ, ◌≤◌}
-use native.Mathlib.Omega.{arith}
-use lib.IntN.{ℤ, pos, negsuc}
-use lib.ListN.{length}
+use lib.IntN.{pos}
 use mir.Syntax.{w64}
 use Rattle.whole.specs.Test.{◌≟◌, ◌<?◌, ◌≤?◌}
 use Rattle.whole.specs.Whole.{min_ℤ, max_ℤ}

@@ -3,13 +3,12 @@ use mathlib.Core.Path.{◌≡◌, refl, sym, ap, subst, ◌∙◌}
 use mathlib.Core.List.{List, [], ◌∷◌, ◌++◌}
 use Prim.Native.Nat.{ℕ, zero, suc, ◌+◌, ◌*◌, ◌≤◌, ◌<◌}
 use native.Mathlib.Omega.{arith}
-use lib.IntN.{ℤ, pos, negsuc, nat_abs, ◌-ℤ◌}
-use lib.ListN.{length, get_or, take, drop, take-append-drop}
+use lib.IntN.{ℤ, pos, negsuc, nat_abs}
+use lib.ListN.{length, get_or, drop, take-append-drop}
 use lib.Seq.{get_or-append_seam}
 use mir.Syntax.{w64}
 use Rattle.refusal.specs.declared.Refusal.{Refusal}
 use Rattle.whole.specs.Divides.{◌∣ℤ◌}
-use Rattle.whole.specs.Whole.{up}
 use Rattle.whole.proofs.Linear.{ints}
 use Rattle.whole.proofs.Divides.{∣-refl, ∣-trans, ∣-neg}
 use Rattle.sign.specs.declared.Sign.{Sign}
@@ -18,20 +17,17 @@ use Rattle.interval.specs.Set.{◌∈◌ as ◌∈ʳ◌}
 use Rattle.sign.specs.Set.{◌∈◌ as ◌∈ᵍ◌}
 use Rattle.sign.specs.Index.{index_of}
 use Rattle.sheet.specs.Lent.{Bytes}
-use Rattle.sheet.specs.Step.{Step}
 use Rattle.sheet.proofs.Claims.{read-valid}
 use Rattle.step.specs.declared.Action.{Action}
-use Rattle.step.specs.declared.Action.TheVariants.{Input, Does}
+use Rattle.step.specs.declared.Action.TheVariants.{Input}
 use Rattle.step.specs.declared.show.Shown.{Shown}
 use Rattle.step.specs.Show.{zero_shown}
-use Rattle.step.specs.Run.{run_op}
 use Rattle.step.specs.Stopping.{InShown, stopping}
 use Rattle.panel.specs.Run.{actions_of}
 use Rattle.panel.specs.Answer.{Ran}
 use Rattle.panel.specs.declared.RunAnswer.{RunAnswer}
 use Rattle.panel.specs.declared.RunAnswer.TheVariants.{Ended}
-use Rattle.desk.specs.Check.{shown_at}
-use Rattle.desk.specs.Five.{flat, sign_at, shown_in}
+use Rattle.desk.specs.Five.{flat, shown_in}
 use Rattle.desk.specs.Promise.{StepStops, stopping as stops-on}
 use Rattle.desk.specs.Answer.{Checked}
 use Rattle.desk.specs.Kept.{InRanges, StopsThere}
@@ -39,7 +35,7 @@ use Rattle.desk.specs.Plain.{entry, SignSays, any, negative, nought, positive, f
 use Rattle.desk.specs.declared.CheckAnswer.TheVariants.{Passed, RefusedAtStep}
 use Rattle.desk.proofs.Fives.{sign-back, found}
 use Rattle.desk.proofs.ClaimsDemand.{shows-each}
-use Rattle.desk.proofs.Names.{Earlier, Names, names_at}
+use Rattle.desk.proofs.Names.{Names, names_at}
 use Rattle.desk.proofs.Claims.{passed-code, refused-code, shown-fives}
 
 never : {A : Type 0} → ◌≡◌ {A = ℕ} 0 1 → A

@@ -1,21 +1,20 @@
 -- Five numbers a step: what was put is found again, and what is put next stands behind it.
-use mathlib.Core.Path.{◌≡◌, refl, sym, ap, ap₂, ◌∙◌, subst}
+use mathlib.Core.Path.{◌≡◌, refl, sym, ap, ap₂, ◌∙◌}
 use mathlib.Core.Bool.{Bool, true, false}
-use mathlib.Core.List.{List, [], ◌∷◌, ◌++◌, append_assoc}
+use mathlib.Core.List.{List, [], ◌∷◌, ◌++◌}
 use Prim.Native.Nat.{ℕ, zero, suc, ◌+◌, ◌*◌, ◌≤◌, ◌<◌}
 use native.Mathlib.Omega.{arith}
 use borrow.Author.Tests.{lt-ltb, ltb-true, ltb-false}
 use lib.Dec.{ltb}
-use lib.IntN.{ℤ, pos}
-use lib.ListN.{length, take, drop, get_or, set, length-append, length-drop, get_or-eq_default, get_or-append}
-use lib.Seq.{sets, sets-eq, take_at, take-suc, take-length, drop_at, drop-drop, drop-append-add}
+use lib.IntN.{ℤ}
+use lib.ListN.{length, take, drop, get_or, set, length-append, length-drop, get_or-eq_default}
+use lib.Seq.{sets, sets-eq, take_at, take-suc, take-length, drop-drop, drop-append-add}
 use Rattle.whole.specs.Choice.{pick}
-use Rattle.whole.specs.Whole.{up}
 use Rattle.sign.specs.declared.Sign.{Sign}
 use Rattle.sign.specs.declared.Sign.TheVariants.{Top, Bottom, Negative, Zero, Positive, NonNeg, NonZero, NonPos}
 use Rattle.sign.specs.Index.{index_of}
 use Rattle.step.specs.declared.show.Shown.{Shown}
-use Rattle.step.specs.Show.{shown, zero_shown}
+use Rattle.step.specs.Show.{zero_shown}
 use Rattle.desk.specs.Five.{five_of, flat, sign_at, shown_in, looked_up, shown_first}
 
 pub sets-five : (l : List ℤ) (i : ℕ) (a b c d e : ℤ) → sets l i (a ∷ b ∷ c ∷ d ∷ e ∷ []) ≡ set (set (set (set (set l i a) (i + 1) b) (i + 2) c) (i + 3) d) (i + 4) e

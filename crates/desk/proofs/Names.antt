@@ -1,8 +1,8 @@
 -- A step that stops names earlier steps alone: the places of its operands lie before its own.
-use mathlib.Core.Path.{◌≡◌, refl, sym, ap, ◌∙◌}
+use mathlib.Core.Path.{◌≡◌, refl, ap, ◌∙◌}
 use mathlib.Core.Logic.{◌≢◌}
 use mathlib.Core.List.{List, [], ◌∷◌, ◌++◌}
-use Prim.Native.Nat.{ℕ, zero, suc, ◌+◌, ◌≤◌, ◌<◌}
+use Prim.Native.Nat.{ℕ, zero, suc, ◌+◌, ◌<◌}
 use native.Mathlib.Omega.{arith}
 use lib.IntN.{ℤ, pos}
 use lib.ListN.{length, get_or}
@@ -11,18 +11,16 @@ use Rattle.refusal.specs.declared.Refusal.{Refusal}
 use Rattle.whole.specs.Choice.{pick}
 use Rattle.whole.specs.Test.{◌≟◌}
 use Rattle.whole.specs.Whole.{up}
-use Rattle.whole.proofs.Linear.{ints}
 use Rattle.whole.proofs.Decides.{branch, eq_test}
 use Rattle.sheet.specs.Operator.{rows, fields_of}
 use Rattle.sheet.specs.Step.{Step}
 use Rattle.sheet.specs.Valid.{Fit, constant, input, one, two, three, Valid, ValidFrom, ended, and}
 use Rattle.sheet.specs.declared.operator.Fields.{Fields}
 use Rattle.sheet.specs.declared.operator.Fields.TheVariants.{Constant as ConstantFields, Input as InputFields, One, Two, Three}
-use Rattle.step.specs.declared.Operator.{Operator}
 use Rattle.step.specs.declared.Operator.TheVariants.{Constant}
 use Rattle.step.specs.declared.Action.{Action}
 use Rattle.step.specs.declared.Action.TheVariants.{Input, Does}
-use Rattle.step.specs.declared.Outcome.TheVariants.{Gives, Stops}
+use Rattle.step.specs.declared.Outcome.TheVariants.{Stops}
 use Rattle.step.specs.Kind.{operator_of, action_of}
 use Rattle.step.specs.Run.{run_op}
 use Rattle.panel.specs.Run.{actions_of}
@@ -85,11 +83,11 @@ pub names_at : {j : ℕ} (xs : List Step) → ValidFrom j xs → (before : List 
 unfolding actions_of
 names_at [] ended [] s after e = let z : ◌≡◌ {A = ℕ} 0 1 = cc in absurd (omega arith)
 names_at [] ended (b ∷ before) s after e = let z : ◌≡◌ {A = ℕ} 0 1 = cc in absurd (omega arith)
-names_at {j} (x ∷ xs) (and v vs) [] s after e =
+names_at {j = j} (x ∷ xs) (and v vs) [] s after e =
     let h : action_of x.operator x.a x.b x.c ≡ s = cc in
     let z : j + 0 ≡ j = omega arith in
     rw z (rw h at (step-names v))
-names_at {j} (x ∷ xs) (and v vs) (b ∷ before) s after e =
+names_at {j = j} (x ∷ xs) (and v vs) (b ∷ before) s after e =
     let h : actions_of xs ≡ before ++ (s ∷ after) = cc in
     let z : j + 1 + length before ≡ j + suc (length before) = omega arith in
-    rw z at (names_at xs vs before s after h)
+    rw z at (names_at {j = j + 1} xs vs before s after h)

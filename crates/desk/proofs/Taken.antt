@@ -1,9 +1,9 @@
 -- A sheet that was read is one that the panel of 64 bits takes; and which inputs a run takes.
 use mathlib.Core.Path.{◌≡◌, refl}
 use mathlib.Core.Logic.{◌≢◌, ◌⊎◌, inl, inr}
-use mathlib.Core.Bool.{Bool, true, false, ◌&&◌}
+use mathlib.Core.Bool.{true}
 use mathlib.Core.List.{List, [], ◌∷◌}
-use Prim.Native.Nat.{ℕ, zero, suc}
+use Prim.Native.Nat.{ℕ, zero, suc, ◌+◌}
 use native.Mathlib.Omega.{arith}
 use lib.IntN.{ℤ, pos}
 use lib.ListN.{get_or, drop}
@@ -11,14 +11,14 @@ use lib.Signed.{◌≤ℤ◌, ◌<ℤ◌}
 use mir.Syntax.{w64}
 use mir.Val.{SFits}
 use Rattle.whole.specs.Choice.{pick}
-use Rattle.whole.specs.Test.{◌≟◌, ◌≤?◌}
+use Rattle.whole.specs.Test.{◌≟◌}
 use Rattle.whole.specs.Whole.{up}
 use Rattle.whole.proofs.Linear.{ints}
 use Rattle.whole.proofs.Fits.{low, high}
 use Rattle.whole.proofs.Decides.{branch, eq_test, le_test, both, yes, is_true}
 use Rattle.sign.proofs.Laws.{and_both}
 use Rattle.interval.proofs.Rem.{proper}
-use Rattle.sheet.specs.Operator.{rows, fields_of}
+use Rattle.sheet.specs.Operator.{fields_of}
 use Rattle.sheet.specs.Step.{Step}
 use Rattle.sheet.specs.Valid.{Fit, constant, input, Valid, ValidFrom, ended, and}
 use Rattle.sheet.specs.declared.operator.Fields.TheVariants.{Constant as ConstantFields, Input as InputFields}
@@ -29,7 +29,7 @@ use Rattle.step.specs.declared.Action.TheVariants.{Input, Does}
 use Rattle.step.specs.Kind.{operators, operator_of, action_of}
 use Rattle.step.specs.Valid.{ValidOperator}
 use Rattle.step.specs.Stopping.{stopping}
-use Rattle.panel.specs.Run.{actions_of, takes, in_range, nothing_left, taken?, suits?}
+use Rattle.panel.specs.Run.{actions_of, takes, taken?, suits?}
 use Rattle.desk.specs.Promise.{ValidAction, AllValid, none, next, Takes, Suits}
 
 -- ---- the operators by their numbers: the number of a constant alone has to fit
@@ -84,7 +84,7 @@ step-valid {s} v =
 pub all_valid : {k : ℕ} (xs : List Step) → ValidFrom k xs → AllValid (stopping w64) (actions_of xs)
 unfolding actions_of
 all_valid [] ended = none
-all_valid (x ∷ xs) (and v vs) = next (step-valid v) (all_valid xs vs)
+all_valid {k = k} (x ∷ xs) (and v vs) = next (step-valid v) (all_valid {k = k + 1} xs vs)
 
 -- ---- the inputs that the run takes are those that are as many as the sheet's, each in its range
 

@@ -1,25 +1,24 @@
 -- The walk of a check: what was put into the room is what the earlier steps show, and what is left gives the answer.
-use mathlib.Core.Path.{◌≡◌, refl, sym, ap, ap₂, ◌∙◌, subst}
+use mathlib.Core.Path.{◌≡◌, refl, sym, ap, ◌∙◌}
 use mathlib.Core.List.{List, [], ◌∷◌, ◌++◌}
-use Prim.Native.Nat.{ℕ, zero, suc, ◌+◌, ◌*◌, ◌≤◌, ◌<◌}
+use Prim.Native.Nat.{ℕ, ◌+◌, ◌*◌, ◌≤◌, ◌<◌}
 use native.Mathlib.Omega.{arith}
-use lib.IntN.{ℤ, pos}
-use lib.ListN.{length, drop, get_or, length-append}
+use lib.IntN.{ℤ}
+use lib.ListN.{length, drop, length-append}
 use lib.Seq.{sets}
 use mir.Syntax.{Width}
 use Rattle.refusal.specs.declared.Refusal.{Refusal}
 use Rattle.refusal.specs.Number.{number_of}
-use Rattle.step.specs.Range.{Answered, shows, declines}
+use Rattle.step.specs.Range.{shows, declines}
 use Rattle.step.specs.declared.Action.{Action}
 use Rattle.step.specs.declared.Action.TheVariants.{Input, Does}
 use Rattle.step.specs.declared.show.Shown.{Shown}
-use Rattle.step.specs.Show.{show_op, zero_shown}
 use Rattle.step.specs.Stopping.{stopping}
 use Rattle.sheet.specs.Sheet.{steps_of}
 use Rattle.panel.specs.Run.{actions_of, action_at}
 use Rattle.panel.proofs.Walk.{actions-next, actions-ended}
-use Rattle.desk.specs.Check.{Check, passed, refused_at, check_step, check_from, check_sheet}
-use Rattle.desk.specs.Five.{five_of, flat, looked_up}
+use Rattle.desk.specs.Check.{passed, refused_at, check_step, check_from, check_sheet}
+use Rattle.desk.specs.Five.{five_of, flat}
 use Rattle.desk.specs.Answer.{passed_with, at_step, result_of, step_in}
 use Rattle.desk.proofs.Fives.{looked, fives-start, fives-next, fives-done, fives-length}
 

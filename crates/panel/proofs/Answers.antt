@@ -1,14 +1,13 @@
 -- What the run answers, by the cases of its definition; and what reading into room for 256 steps leaves.
-use mathlib.Core.Path.{◌≡◌, refl, sym, ap, ◌∙◌, subst}
+use mathlib.Core.Path.{◌≡◌, refl, sym, ap, ◌∙◌}
 use mathlib.Core.Bool.{Bool, true, false}
-use mathlib.Core.List.{List, [], ◌∷◌}
-use Prim.Native.Nat.{ℕ, ◌+◌, ◌*◌, ◌/◌, ◌≤◌, ◌<◌}
+use mathlib.Core.List.{List}
+use Prim.Native.Nat.{ℕ, ◌*◌, ◌≤◌, ◌<◌}
 use native.Mathlib.Omega.{arith}
 use borrow.Author.Tests.{le-leb, lt-leb, ltb-false, leb-false}
 use lib.Dec.{leb, ltb}
 use lib.IntN.{ℤ}
 use lib.ListN.{length, take}
-use lib.Seq.{sets}
 use Rattle.whole.specs.Choice.{pick}
 use Rattle.sheet.specs.Got.{Got, got, refused, fine, verdict_of}
 use Rattle.sheet.specs.Step.{Step}
@@ -18,7 +17,7 @@ use Rattle.sheet.specs.Answer as sheet
 use Rattle.sheet.proofs.Parts.{steps-length, length-flat}
 use Rattle.sheet.proofs.Plans.{steps-count}
 use Rattle.sheet.proofs.Stepped.{got_of}
-use Rattle.sheet.proofs.Answered.{Reads, reads, steps-flat, stored-first}
+use Rattle.sheet.proofs.Answered.{reads, steps-flat, stored-first}
 use Rattle.panel.specs.Run.{Rules, actions_of, suits?, run_sheet}
 use Rattle.panel.specs.Answer.{nothing, refused_by, refused_at, result_of, ran_on, running}
 

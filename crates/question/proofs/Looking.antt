@@ -7,9 +7,7 @@ use native.Mathlib.Omega.{arith}
 use lib.Dec.{eqb}
 use lib.ListN.{length, get_or, drop, drop_of_length-le}
 use Rattle.whole.specs.Choice.{pick}
-use Rattle.question.specs.declared.names.Name.{Name}
 use Rattle.question.specs.declared.names.Name.TheVariants.{Unknown}
-use Rattle.question.specs.Taken.{codes}
 use Rattle.question.specs.Names.{Row, rows, name_in, name_of, firsts_of, seconds_of, values_of, firsts, seconds, values, has_codes}
 
 step : (rs : List Row) (i f s : ℕ) → i < length rs

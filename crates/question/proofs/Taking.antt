@@ -1,13 +1,13 @@
 -- A name that stands after a space, or doesn't, and what its two numbers say of it.
-use Prim.Native.Nat.{ℕ, ◌+◌, ◌*◌, ◌≤◌}
+use Prim.Native.Nat.{ℕ, ◌+◌, ◌≤◌}
 use Prim.Native.String.{String}
 use mathlib.Core.Path.{◌≡◌, refl, sym, ap, ◌∙◌}
 use mathlib.Core.List.{List, []}
 use mathlib.Core.Bool.{Bool, true, false, ◌&&◌}
 use native.Mathlib.Omega.{arith}
-use lib.Dec.{eqb, leb}
+use lib.Dec.{eqb}
 use lib.ListN.{length, get_or, drop, get_or-eq_default}
-use borrow.Author.Tests.{eq-eqb, ne_eqb, leb-true}
+use borrow.Author.Tests.{eq-eqb, ne_eqb}
 use Rattle.text.specs.Ascii.{ascii}
 use Rattle.text.specs.Word.{letters, word_of, first_code, second_code}
 use Rattle.text.proofs.Words.{none_first, none-second}

@@ -38,9 +38,9 @@ place-append [] us out at = refl
 place-append (t ∷ ts) us out at = place-append ts us (put_bytes out at t) (next out at t)
 
 -- texts, and then more of them
-infixr 5 ◌and-then◌
-pub ◌and-then◌ : {ts us : List (List ℕ)} {out mid left : List ℕ} {at e end : ℕ} → Says ts out at mid e → Says us mid e left end → Says (ts ++ us) out at left end
-◌and-then◌ {ts} {us} {out} {at} p q = record {
+infixr 5 ◌and_then◌
+pub ◌and_then◌ : {ts us : List (List ℕ)} {out mid left : List ℕ} {at e end : ℕ} → Says ts out at mid e → Says us mid e left end → Says (ts ++ us) out at left end
+◌and_then◌ {ts} {us} {out} {at} p q = record {
   leaves = q.leaves ∙ rw (p.leaves, p.ends) (sym (output-append ts us out at));
   ends = q.ends ∙ rw (p.leaves, p.ends) (sym (place-append ts us out at));
 }

@@ -8,7 +8,7 @@ pub returns : goal.returns
 returns c =
     let i = c.range-range in
     let s = c.spacing-spacing in
-    let n = c.number_of_lem in
+    let n = c.number_of-number in
     let f₀ : SFits w64 i.result.min = search rules in
     let f₁ : SFits w64 i.result.max = search rules in
     let f₂ : SFits w64 s.result.constant = search rules in

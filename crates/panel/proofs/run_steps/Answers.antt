@@ -2,7 +2,7 @@ use lib.Seq.{length-take-le}
 use mir.Val.{to_z, of_z}
 use Rattle.refusal.specs.Number.{number_of}
 use Rattle.panel.specs.Answer.{stopped, ended_with}
-use Prim.Native.Nat.{◌-◌, ◌≤◌}
+use Prim.Native.Nat.{◌≤◌}
 use mathlib.Core.Path.{◌≡◌, refl, sym, ap, ◌∙◌}
 use native.Mathlib.Omega.{arith}
 use borrow.Author.Rules.{rules}

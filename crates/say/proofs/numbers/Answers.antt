@@ -1,4 +1,3 @@
-use Prim.Native.Nat.{◌-◌}
 use mathlib.Core.Path.{◌≡◌}
 use lib.IntN.{pos}
 use lib.ListN.{get_or}
@@ -6,7 +5,7 @@ use mir.Syntax.{w64}
 use mir.Val.{to_z, of_z}
 use borrow.Author.Rules.{rules}
 use Rattle.say.specs.Texts.{spaced}
-use Rattle.say.proofs.Saying.{nothing}
+use Rattle.say.proofs.Saying.{◌and_then◌, nothing}
 use Rattle.say.proofs.Spaced.{spaced-all, spaced-more}
 use Rattle.say.proofs.numbers.Goals as goal
 

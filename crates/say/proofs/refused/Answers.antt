@@ -1,3 +1,4 @@
+use Rattle.say.proofs.Saying.{◌and_then◌}
 use Rattle.say.proofs.refused.Goals as goal
 
 pub returns : goal.returns

@@ -1,3 +1,4 @@
+use Rattle.say.proofs.Saying.{◌and_then◌}
 use Rattle.say.proofs.stopped_at.Goals as goal
 
 pub returns : goal.returns

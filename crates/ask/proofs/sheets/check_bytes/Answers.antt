@@ -1,3 +1,4 @@
+use Rattle.say.proofs.Saying.{◌and_then◌}
 use Rattle.desk.proofs.Told.{never-short}
 use Rattle.ask.proofs.Checking.{passed-said, refused-said, check-refused-at}
 use borrow.Author.Rules.{rules}

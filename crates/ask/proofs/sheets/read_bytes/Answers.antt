@@ -1,3 +1,4 @@
+use Rattle.say.proofs.Saying.{◌and_then◌}
 use mathlib.Core.Path.{sym, ap, ◌∙◌}
 use Rattle.sheet.specs.Answer.{read_told}
 use Rattle.sheet.proofs.Answered.{enough-room}

@@ -1,3 +1,4 @@
+use Rattle.say.proofs.Saying.{◌and_then◌}
 use Rattle.ask.proofs.Running.{ended-said, stopped-said, run-refused-at, run-refused}
 use borrow.Author.Rules.{rules}
 use Rattle.ask.proofs.sheets.run_inputs.Goals as goal

@@ -1,3 +1,4 @@
+use Rattle.say.proofs.Saying.{◌and_then◌}
 use mathlib.Core.Path.{sym, ap, ◌∙◌}
 use Rattle.sheet.specs.Answer.{write_told}
 use Rattle.ask.proofs.Sheeting.{write-room, write-said, write-refused-at, write-refused}

@@ -1,3 +1,4 @@
+use Rattle.say.proofs.Saying.{◌and_then◌}
 use Rattle.desk.proofs.Told.{never-short}
 use Rattle.check_sheet.proofs.Printing.{passed-text, refused-text, unread-text}
 use borrow.Author.Rules.{rules}

@@ -1,3 +1,4 @@
+use Rattle.say.proofs.Saying.{◌and_then◌}
 use Rattle.check_sheet.proofs.printed.line.Goals as goal
 
 pub returns : goal.returns

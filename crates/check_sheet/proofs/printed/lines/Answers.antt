@@ -4,7 +4,7 @@ use native.Mathlib.Omega.{arith}
 use lib.ListN.{length}
 use borrow.Author.Rules.{rules}
 use Rattle.say.specs.Texts.{numbered}
-use Rattle.say.proofs.Saying.{nothing}
+use Rattle.say.proofs.Saying.{◌and_then◌, nothing}
 use Rattle.desk.specs.Five.{shown_first}
 use Rattle.desk.proofs.Fives.{looked-in}
 use Rattle.check_sheet.proofs.Printing.{one_more}

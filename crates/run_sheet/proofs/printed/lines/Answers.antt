@@ -8,7 +8,7 @@ use mir.Val.{to_z, of_z}
 use borrow.Author.Rules.{rules}
 use Rattle.say.specs.Texts.{numbered}
 use Rattle.say.proofs.Sizes.{size-append}
-use Rattle.say.proofs.Saying.{nothing}
+use Rattle.say.proofs.Saying.{◌and_then◌, nothing}
 use Rattle.run_sheet.specs.Text.{step_line}
 use Rattle.run_sheet.proofs.Printing.{one_more, all_lines}
 use Rattle.run_sheet.proofs.printed.lines.Goals as goal

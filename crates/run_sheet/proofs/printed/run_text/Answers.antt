@@ -1,3 +1,4 @@
+use Rattle.say.proofs.Saying.{◌and_then◌}
 use Rattle.run_sheet.proofs.Printing.{ended-text, stopped-text, unread-text, unsuited-text}
 use Rattle.run_sheet.proofs.Room.{ended-size, stopped-size, unread-size, unsuited-size}
 use borrow.Author.Rules.{rules}
