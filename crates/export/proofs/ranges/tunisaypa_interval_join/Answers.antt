@@ -7,6 +7,6 @@ use Rattle.export.proofs.ranges.tunisaypa_interval_join.Goals as goal
 
 pub returns : goal.returns
 returns c =
-    let p = simp (to_z-of_z c.fits.a, to_z-of_z c.fits.b) at c.between-x.ensures in
-    let q = simp (to_z-of_z c.fits.c, to_z-of_z c.fits.d) at c.between-y.ensures in
+    let p = simp (to_z-of_z c.ranges.a, to_z-of_z c.ranges.b) at c.between-x.ensures in
+    let q = simp (to_z-of_z c.ranges.c, to_z-of_z c.ranges.d) at c.between-y.ensures in
     ranged (λ x y. is (mended.join x y)) (ap is c.join.ensures) p q c.put_range.ensures
