@@ -8,6 +8,8 @@ mod take;
 
 ghost use Rattle.std.specs.Prelude.{◌≡◌, ◌-◌, ◌≤◌, length};
 
+use std::io::Read;
+
 // An answer takes at most so many bytes: the output has room for one more when it is written.
 const ANSWER: usize = 65536;
 
@@ -27,7 +29,7 @@ fn line_end(s: &[u8], at: usize, to: usize) -> usize
 }
 
 // Answers the lines that end between `from` and `to`, and says where the last of them ends.
-fn answer_lines(s: &[u8], from: usize, to: usize, out: &mut [u8]) -> usize
+fn answer_lines(rt: &impl Print, s: &[u8], from: usize, to: usize, out: &mut [u8]) -> usize
     requires { (from ≤ to) × (to ≤ length s.now) }
     ensures { (from ≤ result) × (result ≤ to) }
 {
@@ -39,13 +41,13 @@ fn answer_lines(s: &[u8], from: usize, to: usize, out: &mut [u8]) -> usize
             break;
         }
         if ANSWER < made {
-            files::print(out, made);
+            files::print(rt, out, made);
             made = 0;
         }
         made = line::answer(&s[used..e], out, made);
         used = e + 1;
     }
-    files::print(out, made);
+    files::print(rt, out, made);
     used
 }
 
@@ -64,28 +66,30 @@ fn keep(buf: &mut [u8], from: usize, to: usize) -> usize
     j
 }
 
-// Reads once, after `have` bytes, and answers how many there are then.
-fn refill(buf: &mut [u8], have: usize) -> usize
+// Reads once, after `have` bytes, and answers how many there are then: a read that fails ends the input.
+fn refill(input: &mut impl Read, buf: &mut [u8], have: usize) -> usize
     requires { have ≤ length buf.old }
     ensures { (have ≤ result) × (result ≤ length buf.new) }
 {
-    let got = libc::read(0, &mut buf[have..]);
-    have + io::count(got, &buf[have..])
+    match input.read(&mut buf[have..]) {
+        Ok(more) => have + more,
+        Err(_) => have,
+    }
 }
 
 // Answers the last line, which has no line end.
-fn answer_rest(s: &[u8], to: usize, out: &mut [u8])
+fn answer_rest(rt: &impl Print, s: &[u8], to: usize, out: &mut [u8])
     requires { to ≤ length s.now }
 {
     if 0 < to {
         let made = line::answer(&s[0..to], out, 0);
-        files::print(out, made);
+        files::print(rt, out, made);
     }
 }
 
-fn answer_too_long(out: &mut [u8]) {
+fn answer_too_long(rt: &impl Print, out: &mut [u8]) {
     let made = line::too_long(out, 0);
-    files::print(out, made);
+    files::print(rt, out, made);
 }
 
 // What is known between two reads.
@@ -100,13 +104,13 @@ struct State {
 }
 
 // Answers the lines from `from` on of the first `n` bytes, and keeps the rest.
-fn answer_from(buf: &mut [u8], out: &mut [u8], from: usize, n: usize) -> State
+fn answer_from(rt: &impl Print, buf: &mut [u8], out: &mut [u8], from: usize, n: usize) -> State
     requires { (from ≤ n) × (n ≤ length buf.old) }
 {
-    let used = answer_lines(buf, from, n, out);
+    let used = answer_lines(rt, buf, from, n, out);
     let left = keep(buf, used, n);
     if left == buf.len() {
-        answer_too_long(out);
+        answer_too_long(rt, out);
         return State {
             have: 0,
             skip: true,
@@ -121,11 +125,11 @@ fn answer_from(buf: &mut [u8], out: &mut [u8], from: usize, n: usize) -> State
 }
 
 // The same, where the first line is perhaps one to skip.
-fn answer_all(buf: &mut [u8], out: &mut [u8], n: usize, skip: bool) -> State
+fn answer_all(rt: &impl Print, buf: &mut [u8], out: &mut [u8], n: usize, skip: bool) -> State
     requires { n ≤ length buf.old }
 {
     if !skip {
-        return answer_from(buf, out, 0, n);
+        return answer_from(rt, buf, out, 0, n);
     }
     let e = line_end(buf, 0, n);
     if e == n {
@@ -135,20 +139,26 @@ fn answer_all(buf: &mut [u8], out: &mut [u8], n: usize, skip: bool) -> State
             more: true,
         };
     }
-    answer_from(buf, out, e + 1, n)
+    answer_from(rt, buf, out, e + 1, n)
 }
 
 // Reads once, and answers what it can.
-fn turn(buf: &mut [u8], out: &mut [u8], st: State) -> State {
+fn turn(
+    rt: &impl Print,
+    input: &mut impl Read,
+    buf: &mut [u8],
+    out: &mut [u8],
+    st: State,
+) -> State {
     let have = st.have;
     let skip = st.skip;
     if have <= buf.len() {
-        let n = refill(buf, have);
+        let n = refill(input, buf, have);
         if have < n {
-            return answer_all(buf, out, n, skip);
+            return answer_all(rt, buf, out, n, skip);
         }
         if !skip {
-            answer_rest(buf, n, out);
+            answer_rest(rt, buf, n, out);
         }
     }
     State {
@@ -159,7 +169,7 @@ fn turn(buf: &mut [u8], out: &mut [u8], st: State) -> State {
 }
 
 // A proved loop has to end, and nothing says that the input does: so it counts its turns down, from a number that no run uses up.
-fn serve(buf: &mut [u8], out: &mut [u8]) {
+fn serve(rt: &impl Print, input: &mut impl Read, buf: &mut [u8], out: &mut [u8]) {
     let mut st = State {
         have: 0,
         skip: false,
@@ -167,7 +177,7 @@ fn serve(buf: &mut [u8], out: &mut [u8]) {
     };
     let mut turns = u64::MAX;
     while turns > 0 {
-        st = turn(buf, out, st);
+        st = turn(rt, input, buf, out, st);
         if !st.more {
             return;
         }
@@ -175,8 +185,8 @@ fn serve(buf: &mut [u8], out: &mut [u8]) {
     }
 }
 
-fn main() {
+fn main(rt: HostRuntime) {
     let mut buf = [0u8; 65536];
     let mut out = [0u8; 131072];
-    serve(&mut buf, &mut out);
+    serve(&rt, &mut rt.stdin(), &mut buf, &mut out);
 }

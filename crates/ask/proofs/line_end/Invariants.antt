@@ -1,4 +1,4 @@
-use Prim.Native.Nat.{◌≤◌, ◌-◌}
+use Rattle.std.proofs.Common.{◌≤◌, ◌-◌}
 use Rattle.ask.proofs.line_end.Given as goal
 
 abbrev pub invariant-loop-i : goal.invariant-loop-i
