@@ -13,7 +13,7 @@ use Rattle.say.specs.Texts.{spaced, place_text}
 use Rattle.sheet.specs.Sheet.{parse}
 use Rattle.sheet.specs.Answer as sheet
 use Rattle.desk.specs.declared.CheckAnswer.{CheckAnswer}
-use Rattle.desk.specs.declared.CheckAnswer.TheVariants.{Passed, RefusedAtStep, RefusedAt, Refused}
+use Rattle.desk.specs.declared.CheckAnswer.TheVariants.{Passed, RefusedAtStep, RefusedAt}
 use Rattle.desk.specs.Answer.{check_told, checking}
 use Rattle.desk.proofs.Fives.{length-first}
 use Rattle.desk.proofs.Told.{passed-check, refused-check, unread-check}

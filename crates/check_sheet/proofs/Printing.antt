@@ -1,8 +1,7 @@
 -- What is printed of a check, by its answer.
-use Prim.Native.Nat.{ℕ, suc, ◌+◌, ◌*◌, ◌≤◌, ◌<◌}
-use mathlib.Core.Path.{◌≡◌, refl, ap, ◌∙◌}
-use mathlib.Core.List.{List, [], ◌∷◌, ◌++◌}
-use native.Mathlib.Omega.{arith}
+use Prim.Native.Nat.{ℕ, suc, ◌+◌, ◌≤◌}
+use mathlib.Core.Path.{◌≡◌}
+use mathlib.Core.List.{List, ◌++◌}
 use native.Mathlib.Numerals.{add-one}
 use lib.IntN.{ℤ}
 use lib.ListN.{length}
@@ -14,10 +13,9 @@ use Rattle.text.specs.Ascii.{ascii}
 use Rattle.say.specs.Texts.{numbered, place_line, count_line}
 use Rattle.say.proofs.Numbered.{numbered_more}
 use Rattle.sheet.specs.Sheet.{parse}
-use Rattle.step.specs.declared.show.Shown.{Shown}
 use Rattle.desk.specs.Five.{shown_in, shown_first}
 use Rattle.desk.specs.declared.CheckAnswer.{CheckAnswer}
-use Rattle.desk.specs.declared.CheckAnswer.TheVariants.{Passed, RefusedAtStep, RefusedAt, Refused}
+use Rattle.desk.specs.declared.CheckAnswer.TheVariants.{Passed, RefusedAtStep, RefusedAt}
 use Rattle.desk.specs.Answer.{check_told, checking}
 use Rattle.desk.proofs.Fives.{length-first}
 use Rattle.desk.proofs.Told.{passed-check, refused-check, unread-check}

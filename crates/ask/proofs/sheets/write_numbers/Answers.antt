@@ -15,7 +15,7 @@ pub returns-in-Bytes : goal.returns-in-Bytes
 returns-in-Bytes c =
     let r = c.write in
     let d = sym r.ensures.0 ∙ ap write_told c.in-Bytes.is in
-    rw (write-said _ _ (search rules) c.in-Bytes.n d, ← r.ensures.1) (c.word-e.ensures and_then c.bytes4.ensures)
+    rw (write-said _ _ (search rules) c.in-Bytes.n d, ← r.ensures.1) (c.word-e.ensures and_then c.bytes.ensures)
 
 pub returns-in-RefusedAt : goal.returns-in-RefusedAt
 returns-in-RefusedAt c =
