@@ -1,4 +1,4 @@
-// What Rust or C calls: numbers and lent slices, and nothing asked of the caller but what the language asks of lent slices.
+// What Rust or C calls, with the symbols of export_c: numbers and lent slices, and nothing asked but what the language asks of lent slices.
 // A call returns a status, 0 where its value was put, else the number of the refusal. A refusal of the operation goes before 16.
 #![tactic(auto)]
 
@@ -39,8 +39,7 @@ fn put_two(room: &mut [i64], x: i64, y: i64) -> u8
 }
 
 // The greatest common divisor of the absolute values, into room for one number.
-#[unsafe(no_mangle)]
-pub extern "C" fn tunisaypa_gcd(a: i64, b: i64, room: &mut [i64]) -> u8
+pub fn tunisaypa_gcd(a: i64, b: i64, room: &mut [i64]) -> u8
     ensures { Leaves (number (exactly w64 (pos (divides.gcd (nat_abs a) (nat_abs b))))) room.old result room.new }
 {
     match whole::gcd(a, b) {

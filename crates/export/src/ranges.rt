@@ -30,8 +30,7 @@ fn between(min: i64, max: i64) -> Interval
 // ---- ported
 
 // The sums, saturated; an infinite end stays infinite.
-#[unsafe(no_mangle)]
-pub extern "C" fn tunisaypa_interval_add(a: i64, b: i64, c: i64, d: i64, room: &mut [i64]) -> u8
+pub fn tunisaypa_interval_add(a: i64, b: i64, c: i64, d: i64, room: &mut [i64]) -> u8
     ensures { Leaves (range (is (ported.add (a ⋯ b) (c ⋯ d)))) room.old result room.new }
 {
     let x = between(a, b);
@@ -40,8 +39,7 @@ pub extern "C" fn tunisaypa_interval_add(a: i64, b: i64, c: i64, d: i64, room: &
 }
 
 // From the least to the greatest of the four saturated corner products.
-#[unsafe(no_mangle)]
-pub extern "C" fn tunisaypa_interval_mul(a: i64, b: i64, c: i64, d: i64, room: &mut [i64]) -> u8
+pub fn tunisaypa_interval_mul(a: i64, b: i64, c: i64, d: i64, room: &mut [i64]) -> u8
     ensures { Leaves (range (is (ported.mul (a ⋯ b) (c ⋯ d)))) room.old result room.new }
 {
     let x = between(a, b);
@@ -50,8 +48,7 @@ pub extern "C" fn tunisaypa_interval_mul(a: i64, b: i64, c: i64, d: i64, room: &
 }
 
 // The remainders, by the greatest absolute value of the divisor's ends.
-#[unsafe(no_mangle)]
-pub extern "C" fn tunisaypa_interval_rem(a: i64, b: i64, c: i64, d: i64, room: &mut [i64]) -> u8
+pub fn tunisaypa_interval_rem(a: i64, b: i64, c: i64, d: i64, room: &mut [i64]) -> u8
     ensures { Leaves (range (ported.rem (a ⋯ b) (c ⋯ d))) room.old result room.new }
 {
     let x = between(a, b);
@@ -60,8 +57,7 @@ pub extern "C" fn tunisaypa_interval_rem(a: i64, b: i64, c: i64, d: i64, room: &
 }
 
 // The least interval that holds both. It is right, so there is no mended twin.
-#[unsafe(no_mangle)]
-pub extern "C" fn tunisaypa_interval_join(a: i64, b: i64, c: i64, d: i64, room: &mut [i64]) -> u8
+pub fn tunisaypa_interval_join(a: i64, b: i64, c: i64, d: i64, room: &mut [i64]) -> u8
     ensures { Leaves (range (is (mended.join (a ⋯ b) (c ⋯ d)))) room.old result room.new }
 {
     let x = between(a, b);
@@ -72,14 +68,7 @@ pub extern "C" fn tunisaypa_interval_join(a: i64, b: i64, c: i64, d: i64, room: 
 // ---- mended
 
 // The least range of all sums.
-#[unsafe(no_mangle)]
-pub extern "C" fn tunisaypa_mended_interval_add(
-    a: i64,
-    b: i64,
-    c: i64,
-    d: i64,
-    room: &mut [i64],
-) -> u8
+pub fn tunisaypa_mended_interval_add(a: i64, b: i64, c: i64, d: i64, room: &mut [i64]) -> u8
     ensures { Leaves (range (mended.add w64 (a ⋯ b) (c ⋯ d))) room.old result room.new }
 {
     let x = between(a, b);
@@ -88,14 +77,7 @@ pub extern "C" fn tunisaypa_mended_interval_add(
 }
 
 // The least range of all products.
-#[unsafe(no_mangle)]
-pub extern "C" fn tunisaypa_mended_interval_mul(
-    a: i64,
-    b: i64,
-    c: i64,
-    d: i64,
-    room: &mut [i64],
-) -> u8
+pub fn tunisaypa_mended_interval_mul(a: i64, b: i64, c: i64, d: i64, room: &mut [i64]) -> u8
     ensures { Leaves (range (mended.mul w64 (a ⋯ b) (c ⋯ d))) room.old result room.new }
 {
     let x = between(a, b);
@@ -104,14 +86,7 @@ pub extern "C" fn tunisaypa_mended_interval_mul(
 }
 
 // The remainders, by the greatest magnitude in the divisor.
-#[unsafe(no_mangle)]
-pub extern "C" fn tunisaypa_mended_interval_rem(
-    a: i64,
-    b: i64,
-    c: i64,
-    d: i64,
-    room: &mut [i64],
-) -> u8
+pub fn tunisaypa_mended_interval_rem(a: i64, b: i64, c: i64, d: i64, room: &mut [i64]) -> u8
     ensures { Leaves (range (mended.rem w64 (a ⋯ b) (c ⋯ d))) room.old result room.new }
 {
     let x = between(a, b);

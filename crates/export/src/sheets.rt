@@ -10,8 +10,7 @@ use desk::CheckAnswer;
 use panel::RunAnswer;
 
 // Checks a sheet: five numbers a step go into the room.
-#[unsafe(no_mangle)]
-pub extern "C" fn tunisaypa_check(bytes: &[u8], room: &mut [i64], place: &mut usize) -> u8
+pub fn tunisaypa_check(bytes: &[u8], room: &mut [i64], place: &mut usize) -> u8
     ensures { Told (checked (checking w64 bytes.now room.old)) room.old place.old result room.new place.new }
 {
     match desk::check(bytes, room) {
@@ -32,13 +31,7 @@ pub extern "C" fn tunisaypa_check(bytes: &[u8], room: &mut [i64], place: &mut us
 }
 
 // Runs a sheet on its inputs: a number a step goes into the room.
-#[unsafe(no_mangle)]
-pub extern "C" fn tunisaypa_run(
-    bytes: &[u8],
-    inputs: &[i64],
-    room: &mut [i64],
-    place: &mut usize,
-) -> u8
+pub fn tunisaypa_run(bytes: &[u8], inputs: &[i64], room: &mut [i64], place: &mut usize) -> u8
     ensures { Told (ran (running (run_op w64) bytes.now inputs.now room.old)) room.old place.old result room.new place.new }
 {
     match panel::run(bytes, inputs, room) {

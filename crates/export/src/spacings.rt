@@ -29,8 +29,7 @@ fn modulo(constant: i64, modulus: i64) -> Congruence
 // ---- ported
 
 // The class of the left constant modulo the gcd of both moduli and the difference.
-#[unsafe(no_mangle)]
-pub extern "C" fn tunisaypa_congruence_join(c: i64, m: i64, e: i64, n: i64, room: &mut [i64]) -> u8
+pub fn tunisaypa_congruence_join(c: i64, m: i64, e: i64, n: i64, room: &mut [i64]) -> u8
     ensures { Leaves (spacing (ported.join (cong c m) (cong e n))) room.old result room.new }
 {
     let x = modulo(c, m);
@@ -39,8 +38,7 @@ pub extern "C" fn tunisaypa_congruence_join(c: i64, m: i64, e: i64, n: i64, room
 }
 
 // The products, by the Rust's formula.
-#[unsafe(no_mangle)]
-pub extern "C" fn tunisaypa_congruence_mul(c: i64, m: i64, e: i64, n: i64, room: &mut [i64]) -> u8
+pub fn tunisaypa_congruence_mul(c: i64, m: i64, e: i64, n: i64, room: &mut [i64]) -> u8
     ensures { Leaves (spacing (ported.mul (cong c m) (cong e n))) room.old result room.new }
 {
     let x = modulo(c, m);
@@ -49,8 +47,7 @@ pub extern "C" fn tunisaypa_congruence_mul(c: i64, m: i64, e: i64, n: i64, room:
 }
 
 // The left constant modulo the lcm, if they share a number.
-#[unsafe(no_mangle)]
-pub extern "C" fn tunisaypa_congruence_meet(c: i64, m: i64, e: i64, n: i64, room: &mut [i64]) -> u8
+pub fn tunisaypa_congruence_meet(c: i64, m: i64, e: i64, n: i64, room: &mut [i64]) -> u8
     ensures { Leaves (spacing (ported.meet (cong c m) (cong e n))) room.old result room.new }
 {
     let x = modulo(c, m);
@@ -61,14 +58,7 @@ pub extern "C" fn tunisaypa_congruence_meet(c: i64, m: i64, e: i64, n: i64, room
 // ---- mended
 
 // The least class that holds both.
-#[unsafe(no_mangle)]
-pub extern "C" fn tunisaypa_mended_congruence_join(
-    c: i64,
-    m: i64,
-    e: i64,
-    n: i64,
-    room: &mut [i64],
-) -> u8
+pub fn tunisaypa_mended_congruence_join(c: i64, m: i64, e: i64, n: i64, room: &mut [i64]) -> u8
     ensures { Leaves (spacing (mended.join w64 (cong c m) (cong e n))) room.old result room.new }
 {
     let x = modulo(c, m);
@@ -77,14 +67,7 @@ pub extern "C" fn tunisaypa_mended_congruence_join(
 }
 
 // The products, by the Rust's formula, made canonical.
-#[unsafe(no_mangle)]
-pub extern "C" fn tunisaypa_mended_congruence_mul(
-    c: i64,
-    m: i64,
-    e: i64,
-    n: i64,
-    room: &mut [i64],
-) -> u8
+pub fn tunisaypa_mended_congruence_mul(c: i64, m: i64, e: i64, n: i64, room: &mut [i64]) -> u8
     ensures { Leaves (spacing (mended.mul w64 (cong c m) (cong e n))) room.old result room.new }
 {
     let x = modulo(c, m);
@@ -93,14 +76,7 @@ pub extern "C" fn tunisaypa_mended_congruence_mul(
 }
 
 // The common numbers.
-#[unsafe(no_mangle)]
-pub extern "C" fn tunisaypa_mended_congruence_meet(
-    c: i64,
-    m: i64,
-    e: i64,
-    n: i64,
-    room: &mut [i64],
-) -> u8
+pub fn tunisaypa_mended_congruence_meet(c: i64, m: i64, e: i64, n: i64, room: &mut [i64]) -> u8
     ensures { Leaves (spacing (mended.meet w64 (cong c m) (cong e n))) room.old result room.new }
 {
     let x = modulo(c, m);
