@@ -1,6 +1,6 @@
 /* Tunisaypa for C: the check and the run of a sheet, and the operations of its domains, on x86-64.
  *
- * `rt staticlib export` makes the library, target/staticlib/libexport.a; it needs nothing but the C library.
+ * `tools/staticlib` makes the library, target/staticlib/libexport.a; it needs nothing but the C library.
  *
  *     cc -Iinclude program.c target/staticlib/libexport.a
  *

@@ -1,4 +1,4 @@
-//! Tunisaypa for Rust, on x86-64: safe functions over those of tunisaypa.h, which tells what each leaves. `rt staticlib export` makes the
+//! Tunisaypa for Rust, on x86-64: safe functions over those of tunisaypa.h, which tells what each leaves. `tools/staticlib` makes the
 //! library. Take this file in as a module, in edition 2021 or an earlier one, and link the library:
 //!
 //!     #[path = "include/tunisaypa.rs"]

@@ -15,16 +15,20 @@ made_of() { # NAME
             print n
         }
         { sub(/#.*/, "") }
-        index($0, ":") { n = substr($0, 1, index($0, ":") - 1); gsub(/[ \t]/, "", n); uses[n] = substr($0, index($0, ":") + 1) }
+        index($0, ":") { n = $1; sub(/:.*/, "", n); uses[n] = substr($0, index($0, ":") + 1) }
         END { visit(name) }' "$root/crates.txt"
 }
 
-# Whether NAME was proved, and run if it is a program (rt then leaves its stamp), and no text that it is made of is newer.
+# A program's executable, or a static library's archive.
+made_by() { # NAME
+    if [ -f "$root/crates/$1/src/main.rt" ]; then echo "$root/crates/$1/out/$1"; else echo "$root/crates/$1/out/lib$1.a"; fi
+}
+
+# Whether NAME was proved and built here (`prove` then leaves a stamp), and no text that it is made of is newer.
 is_built() { # NAME
-    [ -f "$root/target/stamp/$1" ] || return 1
-    [ -f "$root/target/bin/$1" ] || [ -e "$root/target/rlib/$1.rlib" ] || return 1
-    newer=$(cd "$root" && find crates.txt $(made_of "$1" | sed 's,^,crates/,') -type f -newer "target/stamp/$1" \
-        \( -name '*.rt' -o -name '*.antt' -o -name crates.txt \) 2>/dev/null) || return 1
+    [ -f "$root/target/stamp/$1" ] && [ -f "$(made_by "$1")" ] || return 1
+    newer=$(cd "$root" && find crates.txt $(made_of "$1" | sed 's,^,crates/,') -name out -prune -o -type f -newer "target/stamp/$1" \
+        \( -name '*.rt' -o -name '*.antt' -o -name crates.txt \) -print 2>/dev/null) || return 1
     [ -z "$newer" ]
 }
 
@@ -52,34 +56,29 @@ move() {
     printf "\\r%$((width - 1))s\\r%.$((width - 1))s" '' "$me: $1" >&2
 }
 
-# How long rt says that a crate took: "12 s", or nothing if it was proved before.
-time_of() { # NAME
-    sed -n "s/^rt: $1 proved (\([0-9]* s\))\$/\1/p" "$log/$1.out" 2>/dev/null
-}
-
-# Looks at what rt has left so far: NAME.res says `failed` from its start, and `proved` or `built` at its end.
+# Looks at what rt has said so far. It takes the crates one after another, in the order of `crates`, names the one in hand, and ends it with
+# a line `logic=proved`; of one that was built before it says nothing.
 look() {
-    ready=0 now=''
-    for crate in $crates; do
-        word=''
-        [ ! -f "$log/$crate.res" ] || read -r word <"$log/$crate.res"
-        case $word in
-        proved | built) ready=$((ready + 1)); end_of "$crate" ;;
-        '') ;;
-        *) now=${now:+$now, }$crate ;;
-        esac
-    done
+    set -- $(awk -v crates="$crates" '
+        BEGIN { n = split(crates, name, " "); for (i = 1; i <= n; i++) place[name[i]] = i }
+        /^rt: chose / { now = $NF }
+        /^crate / { now = substr($2, 1, length($2) - 1) }
+        now in place && ready < place[now] { ready = place[now] - 1 }
+        now in place && /^logic=proved/ { ready = place[now]; ended = ended " " ready ":" now; now = "" }
+        END { print ready + 0, (now in place ? now : "") ":" ended }' "$log/desk.build")
+    ready=$1 now=${2%:}
+    shift 2
+    for crate do end_of "${crate%:*}" "${crate#*:}"; done
     [ "$moving" = no ] || move "$ready of $many done${now:+, now $now}; $(seconds) s, $hope"
 }
 
-# In a log, the line of a crate that has just ended; and how many were not proved before.
-end_of() { # NAME
-    case " $told " in *" $1 "*) return ;; esac
-    told="$told $1"
-    its_time=$(time_of "$1")
-    [ -n "$its_time" ] || return 0
+# In a log, the line of a crate that has just ended; and how many were not built before.
+end_of() { # PLACE NAME
+    case " $told " in *" $2 "*) return ;; esac
+    told="$told $2"
+    its_time=$(($(seconds) - since)) since=$(seconds)
     anew=$((anew + 1))
-    [ "$moving" = yes ] || tell "$ready of $many, $1, $its_time ($(seconds) s so far)"
+    [ "$moving" = yes ] || tell "$1 of $many, $2, $its_time s ($since s so far)"
 }
 
 # ---- the build
@@ -94,16 +93,11 @@ end_build() {
     build=''
 }
 
-# What was said of the crates that failed themselves, from its start, which says most; or else the end of all that was said.
+# What was said of the crate that failed, from its start, which says most.
 show_failure() { # NAME
-    at_fault=''
-    for crate in $(echo "$now" | tr -d ,); do
-        if grep -q 'NOT PROVED: its dependency' "$log/$crate.out"; then continue; fi
-        at_fault="$at_fault $crate"
-        grep -v ': proved$' "$log/$crate.out" | head -n 30 | cut -c 1-300 >&2
-    done
-    [ -n "$at_fault" ] || tail -n 20 "$log/desk.build" >&2
-    tell "not proved and built:${at_fault:- $1}; target/log/desk.build has all that was said"
+    awk '{ said = said $0 "\n" } /^logic=proved/ { said = "" } END { printf "%s", said }' "$log/desk.build" |
+        grep -v -e ': proved$' -e ': modules loaded=' -e '^logic ' -e '^rt: chose ' -e '^rt: .*: begins with ' | head -n 30 | cut -c 1-300 >&2
+    tell "not proved and built: ${now:-$1}; target/log/desk.build has all that was said"
 }
 
 prove() { # NAME USUAL
@@ -113,13 +107,13 @@ prove() { # NAME USUAL
         return 2
     fi
     log=$root/target/log
-    crates=$(made_of "$1") told='' anew=0 began=$(date +%s) hope=$(expected "$1" "$2")
-    many=$(echo "$crates" | wc -l | tr -d ' ')
+    crates=$(made_of "$1" | tr '\n' ' ') told='' anew=0 since=0 began=$(date +%s) hope=$(expected "$1" "$2")
+    case $(made_by "$1") in *.a) verb=lib ;; *) verb=run ;; esac
+    many=$(echo "$crates" | wc -w | tr -d ' ')
     if [ -t 2 ]; then moving=yes; else moving=no; fi
-    mkdir -p "$log" && : >"$log/desk.begun" || return 2
-    for crate in $crates; do rm -f "$log/$crate.res"; done
+    mkdir -p "$log" "$root/target/stamp" && : >"$log/desk.begun" && : >"$log/desk.build" || return 2
     tell "proving $1 first, $many crates: $hope"
-    (cd "$root" && exec $(command -v setsid) rt check "$1") </dev/null >"$log/desk.build" 2>&1 &
+    (cd "$root/crates/$1" && exec $(command -v setsid) rt "$verb") </dev/null >"$log/desk.build" 2>&1 &
     build=$!
     while kill -0 "$build" 2>/dev/null; do
         look
@@ -129,7 +123,7 @@ prove() { # NAME USUAL
     ended=$?
     build=''
     look
-    if [ "$ended" -ne 0 ] || [ ! -f "$root/target/stamp/$1" ]; then
+    if [ "$ended" -ne 0 ] || [ ! -f "$(made_by "$1")" ]; then
         [ "$moving" = no ] || echo >&2
         show_failure "$1"
         return 2
