@@ -6,7 +6,7 @@
  *
  * Every call ends. It returns 0 and puts its numbers at the front of the lent room, or it returns the number of a refusal; what it leaves
  * then is said beside each function, and the rest of the room stays as it was. For all numbers and all bytes that is proved:
- * crates/export/src has the contracts. No call keeps anything for the next, so several threads may call at once.
+ * crates/export_c/src has the contracts. No call keeps anything for the next, so several threads may call at once.
  *
  * A lent slice is a pointer and how many elements lie there. Asked of the caller is what Rattle asks of lent slices: the pointer is aligned
  * and not NULL, even where there is no element, and what is lent to be written (room, place) overlaps nothing else lent to the same call.
