@@ -11,24 +11,25 @@ use Rattle.refusal.specs.Number.{number_of}
 use Rattle.text.specs.Ascii.{ascii}
 use Rattle.say.specs.Texts.{spaced, place_text}
 use Rattle.sheet.specs.Sheet.{parse}
-use Rattle.sheet.specs.Answer as sheet
 use Rattle.step.specs.Run.{run_op}
-use Rattle.panel.specs.declared.RunAnswer.{RunAnswer}
-use Rattle.panel.specs.declared.RunAnswer.TheVariants.{Ended, StoppedAt, RefusedAt, Refused}
-use Rattle.panel.specs.Answer.{run_told, running}
+use Rattle.std.specs.Prelude.{Ok, Err}
+use Rattle.refusal.specs.declared.Fault.TheVariants.{AtStep, AtByte, By}
+use Rattle.refusal.specs.Answer.{at_byte, refused_by}
+use Rattle.refusal.specs.Count.{Counted, count_told}
+use Rattle.panel.specs.Answer.{running}
 use Rattle.panel.proofs.Told.{ended-run, stopped-run, unread-run, unsuited-run}
 use Rattle.ask.specs.Sheets.{refused_text, run_said}
 
-module _ (s : List ℕ) (ins room left : List ℤ) (a : RunAnswer) (t : run_told a ≡ (running (run_op w64) s ins room).told) (e : left ≡ sets room 0 (running (run_op w64) s ins room).numbers) where
-  pub ended-said : (n : ℕ) → a ≡ Ended n → length room ≡ 256 → (n ≤ 256) × (run_said (parse s) ins ≡ ascii "ended" ∷ spaced (take (n - 0) left))
+module _ (s : List ℕ) (ins room left : List ℤ) (a : Counted) (t : count_told a ≡ (running (run_op w64) s ins room).told) (e : left ≡ sets room 0 (running (run_op w64) s ins room).numbers) where
+  pub ended-said : (n : ℕ) → a ≡ Ok n → length room ≡ 256 → (n ≤ 256) × (run_said (parse s) ins ≡ ascii "ended" ∷ spaced (take (n - 0) left))
   ended-said n q l = let r = ended-run s ins room left a t e l n q in (r.few, rw (r.parsed, r.suited, r.ran))
 
-  pub stopped-said : (why : Refusal) (n : ℕ) → a ≡ StoppedAt why n → length room ≡ 256
+  pub stopped-said : (why : Refusal) (n : ℕ) → a ≡ Err (AtStep why n) → length room ≡ 256
       → (n ≤ 256) × (run_said (parse s) ins ≡ ascii "stopped at " ∷ (place_text n (number_of why) ++ spaced (take (n - 0) left)))
   stopped-said why n q l = let r = stopped-run s ins room left a t e l why n q in (r.few, rw (r.parsed, r.suited, r.ran, r.count))
 
-  pub run-refused-at : (why : Refusal) (p : ℕ) → a ≡ RefusedAt why p → length room ≡ 256 → run_said (parse s) ins ≡ refused_text (sheet.refused_at (number_of why) p)
+  pub run-refused-at : (why : Refusal) (p : ℕ) → a ≡ Err (AtByte why p) → length room ≡ 256 → run_said (parse s) ins ≡ refused_text (at_byte (number_of why) p)
   run-refused-at why p q l = rw (unread-run s ins room left a t e l why p q)
 
-  pub run-refused : (why : Refusal) → a ≡ Refused why → length room ≡ 256 → run_said (parse s) ins ≡ refused_text (sheet.refused_by (number_of why))
+  pub run-refused : (why : Refusal) → a ≡ Err (By why) → length room ≡ 256 → run_said (parse s) ins ≡ refused_text (refused_by (number_of why))
   run-refused why q l = let r = unsuited-run s ins room left a t e l why q in rw (r.parsed, r.unsuited, r.fifteen)

@@ -1,3 +1,3 @@
-pub mod Taken
 pub mod Sheets
 pub mod Answer
+pub mod Waiting

@@ -1,23 +1,24 @@
 // The text of an answer.
-ghost use Rattle.say.specs.Said.{Says};
+ghost use Rattle.say.specs.Said.{Puts};
 ghost use Rattle.ask.specs.Answer.{answer_said};
 
-use question::answer::Answer;
+use question::answer::{Answer, NotAnswered};
+use say::Page;
 
-// Puts the answer's text after `made` bytes, and answers the place after it.
-pub(crate) fn say(out: &mut [u8], made: usize, a: Answer) -> usize
-    ensures { Says (answer_said a) out.old made out.new result }
+// Puts the answer's text on the page.
+pub(crate) fn say(page: &mut Page, a: Result<Answer, NotAnswered>)
+    ensures { Puts (answer_said a) page.old page.new }
 {
     match a {
-        Answer::Sign(s) => say::sign(out, made, s),
-        Answer::Range(size, i) => say::interval_at(out, made, size, i),
-        Answer::Ranges(p) => say::intervals(out, made, p),
-        Answer::Spacing(c) => say::congruence(out, made, c),
-        Answer::Order(o) => say::order(out, made, o),
-        Answer::Truth(t) => say::truth(out, made, t),
-        Answer::Number(n) => say::number(out, made, n),
-        Answer::NoNumber => say::none(out, made),
-        Answer::Refused(r) => say::refused(out, made, r),
-        Answer::NotUnderstood => say::not_understood(out, made),
+        Ok(Answer::Sign(s)) => page.sign(s),
+        Ok(Answer::Range(size, i)) => page.interval_at(size, i),
+        Ok(Answer::Ranges(p)) => page.intervals(p),
+        Ok(Answer::Spacing(c)) => page.congruence(c),
+        Ok(Answer::Order(o)) => page.order(o),
+        Ok(Answer::Truth(t)) => page.truth(t),
+        Ok(Answer::Number(Some(n))) => page.number(n),
+        Ok(Answer::Number(None)) => page.none(),
+        Err(NotAnswered::Refused(r)) => page.refused(r),
+        Err(NotAnswered::NotUnderstood) => page.not_understood(),
     }
 }

@@ -21,7 +21,7 @@ use Rattle.say.specs.Texts.{numbered, place_line}
 use Rattle.say.proofs.Sizes.{size-append, joined-size}
 use Rattle.sheet.specs.Lent.{Bytes}
 use Rattle.sheet.specs.Got.{Got, got, refused}
-use Rattle.sheet.specs.Step.{Step}
+use Rattle.sheet.specs.declared.step.Step.{Step}
 use Rattle.sheet.specs.Sheet.{parse}
 use Rattle.sheet.proofs.Places.{refused-within}
 use Rattle.step.specs.declared.show.Shown.{Shown}

@@ -7,7 +7,7 @@ use Rattle.text.specs.Decimal.{digits}
 use Rattle.say.specs.Names.{sign_name}
 use Rattle.say.specs.Texts.{range_text, spacing_text, numbered, place_line, count_line}
 use Rattle.sheet.specs.Got.{Got, got, refused}
-use Rattle.sheet.specs.Step.{Step}
+use Rattle.sheet.specs.declared.step.Step.{Step}
 use Rattle.step.specs.declared.show.Shown.{Shown}
 use Rattle.step.specs.Stopping.{stopping}
 use Rattle.desk.specs.Check.{Check, passed, refused_at, check_sheet}

@@ -3,7 +3,6 @@
 
 mod printed;
 
-use files::Contents;
 use std::env::Env;
 use std::rt::Files;
 
@@ -13,25 +12,12 @@ fn print_check(rt: &impl Print, bytes: &[u8]) {
     files::print(rt, &out, made);
 }
 
-// Prints the check of what was read.
-fn check_found(rt: &impl Print, buf: &[u8], found: Contents) {
-    match found {
-        Contents::Bytes(n) => {
-            if n <= buf.len() {
-                print_check(rt, &buf[0..n]);
-            }
-        }
-        Contents::Unreadable => {}
-    }
-}
-
 // Checks the files that the arguments name; with several, each under its name.
 fn check_files(rt: &(impl Env + Files + Print), count: usize, buf: &mut [u8]) {
-    let mut i: usize = 1;
-    while i < count {
-        let found = files::named(rt, i, 2 < count, buf);
-        check_found(rt, buf, found);
-        i = i + 1;
+    for i in 1..count {
+        if let Some(n) = files::named(rt, i, 2 < count, buf) {
+            print_check(rt, &buf[..n]);
+        }
     }
 }
 
@@ -41,8 +27,7 @@ fn main(rt: HostRuntime) {
     let count = files::argument_count(&rt);
     if 1 < count {
         check_files(&rt, count, &mut buf);
-    } else {
-        let found = files::standard_input(&rt, &mut buf);
-        check_found(&rt, &buf, found);
+    } else if let Some(n) = files::standard_input(&rt, &mut buf) {
+        print_check(&rt, &buf[..n]);
     }
 }

@@ -9,12 +9,11 @@ use lib.IntN.{ℤ, pos, neg_ℤ, nat_abs, ◌+ℤ◌, ◌-ℤ◌, ◌*ℤ◌, ze
 use lib.Signed.{◌≤ℤ◌}
 use mir.Syntax.{Width}
 use mir.Val.{SFits}
+use Rattle.std.specs.Prelude.{None, Option, Some}
 use Rattle.whole.specs.Choice.{pick}
 use Rattle.whole.specs.Range.{fits?}
 use Rattle.whole.specs.Divides.{◌∣ℤ◌, gcd, Cong, floor_rem}
 use Rattle.whole.specs.Exact.{exactly}
-use Rattle.whole.specs.declared.Exact.{Exact}
-use Rattle.whole.specs.declared.Exact.TheVariants as exacts
 use Rattle.whole.proofs.Linear.{ints, wholes, read, abs}
 use Rattle.whole.proofs.Fits.{zero-fits}
 use Rattle.whole.proofs.Ring.{ring, nat_abs-*ℤ, nat_abs-zero, no_zero, mul-nonneg}
@@ -172,28 +171,28 @@ module _ (w : Width) (a : Congruence) where
 -- ---- product
 
 -- two numbers on the way and their gcd
-pub record Combined (w : Width) (x y : Exact) (k : ℤ) : Type 0 where
+pub record Combined (w : Width) (x y : Option ℤ) (k : ℤ) : Type 0 where
   pub left : ℤ
   pub right : ℤ
-  pub left_is : x ≡ exacts.Is left
-  pub right_is : y ≡ exacts.Is right
+  pub left_is : x ≡ Some left
+  pub right_is : y ≡ Some right
   pub is : k ≡ pos (gcd (nat_abs left) (nat_abs right))
   pub fits : SFits w k
 
-pub combined : (w : Width) (x y : Exact) (k : ℤ) → gcd_then w x y ≡ exacts.Is k → Combined w x y k
+pub combined : (w : Width) (x y : Option ℤ) (k : ℤ) → gcd_then w x y ≡ Some k → Combined w x y k
 unfolding gcd_then
-combined w exacts.DoesNotFit y k h = let i : ◌≡◌ {A = ℕ} 0 1 = cc in absurd (omega arith)
-combined w (exacts.Is x) exacts.DoesNotFit k h = let i : ◌≡◌ {A = ℕ} 0 1 = cc in absurd (omega arith)
-combined w (exacts.Is x) (exacts.Is y) k h =
+combined w None y k h = let i : ◌≡◌ {A = ℕ} 0 1 = cc in absurd (omega arith)
+combined w (Some x) None k h = let i : ◌≡◌ {A = ℕ} 0 1 = cc in absurd (omega arith)
+combined w (Some x) (Some y) k h =
     let e = found-is w (pos (gcd (nat_abs x) (nat_abs y))) k h in
     record { left = x; right = y; left_is = refl; right_is = refl; is = e; fits = subst (λ t. SFits w t) (sym e) (yes (fits-test w (pos (gcd (nat_abs x) (nat_abs y)))) (found-fits w (pos (gcd (nat_abs x) (nat_abs y))) k h)) }
 
 -- a result of the rules: the class, or what is shown instead
-pub result-cases : (P : Congruence → Type 0) (z g : Exact) (o : Congruence) → (z ≡ exacts.DoesNotFit → P o) → (g ≡ exacts.DoesNotFit → P o) → ((x k : ℤ) → z ≡ exacts.Is x → g ≡ exacts.Is k → P (cong (floor_rem x k) k)) → P (result_of z g o)
+pub result-cases : (P : Congruence → Type 0) (z g : Option ℤ) (o : Congruence) → (z ≡ None → P o) → (g ≡ None → P o) → ((x k : ℤ) → z ≡ Some x → g ≡ Some k → P (cong (floor_rem x k) k)) → P (result_of z g o)
 unfolding result_of
-result-cases P exacts.DoesNotFit g o f1 f2 f3 = f1 refl
-result-cases P (exacts.Is x) exacts.DoesNotFit o f1 f2 f3 = f2 refl
-result-cases P (exacts.Is x) (exacts.Is k) o f1 f2 f3 = f3 x k refl refl
+result-cases P None g o f1 f2 f3 = f1 refl
+result-cases P (Some x) None o f1 f2 f3 = f2 refl
+result-cases P (Some x) (Some k) o f1 f2 f3 = f3 x k refl refl
 
 module _ (a b : Congruence) where
   abbrev first : ℕ
@@ -218,7 +217,7 @@ module _ (a b : Congruence) where
       turned m e = nat_abs-*ℤ m e ∙ (mul_comm (nat_abs m) (nat_abs e) ∙ sym (nat_abs-*ℤ e (pos (nat_abs m))))
 
 module _ (w : Width) (a b : Congruence) where
-  pub formula-is : (k : ℤ) → formula w a b ≡ exacts.Is k → (k ≡ pos (D a b)) × SFits w k
+  pub formula-is : (k : ℤ) → formula w a b ≡ Some k → (k ≡ pos (D a b)) × SFits w k
   unfolding formula
   formula-is k h =
       let p = combined w (gcd_then w (exactly w (a.modulus *ℤ b.modulus)) (exactly w (a.modulus *ℤ b.constant))) (exactly w (b.modulus *ℤ a.constant)) k h in
@@ -254,13 +253,13 @@ module _ (w : Width) (a b : Congruence) where
               ∙ (ap₂ (λ s t. gcd (nat_abs s) (nat_abs t)) (zero-*ℤ b.modulus) (zero-*ℤ b.constant) ∙ gcd-n-0 0)
       whole e (inr j) = ap (λ t. gcd (first a b) (nat_abs t)) (ap (λ n. n *ℤ a.constant) j ∙ zero-*ℤ a.constant) ∙ gcd-n-0 (first a b)
 
-      go : (t : Bool) → fits? w (pos (first a b)) ≡ t → gcd_then w (pick t (exacts.Is (pos (first a b))) exacts.DoesNotFit) (exacts.Is (b.modulus *ℤ a.constant)) ≡ exactly w (pos (D a b))
+      go : (t : Bool) → fits? w (pos (first a b)) ≡ t → gcd_then w (pick t (Some (pos (first a b))) None) (Some (b.modulus *ℤ a.constant)) ≡ exactly w (pos (D a b))
       go true e = refl
       go false e = let z = none_first (nat_abs (a.modulus *ℤ b.modulus)) refl e in
           rw (whole e (no_zero a.modulus b.modulus z), e) refl
 
   -- of two single numbers the formula is 0
-  formula-zero : a.modulus ≡ pos 0 → b.modulus ≡ pos 0 → formula w a b ≡ exacts.Is (pos 0)
+  formula-zero : a.modulus ≡ pos 0 → b.modulus ≡ pos 0 → formula w a b ≡ Some (pos 0)
   unfolding formula gcd_then exactly
   formula-zero i j = rw (i, j, zero-*ℤ (pos 0), zero-*ℤ b.constant, zero-*ℤ a.constant, is-fit {w = w} zero-fits, gcd-n-0 0, is-fit {w = w} zero-fits, gcd-n-0 0, is-fit {w = w} zero-fits) refl
 
@@ -277,7 +276,7 @@ module _ (w : Width) (a b : Congruence) where
       instead n = branch (singles-test a b) (λ t. (x *ℤ y) ∈ t) (λ s. absurd (n s.0 s.1)) (λ s. all (x *ℤ y))
 
   -- what a modulus that was worked out says of its products
-  pub formula-fits : (x k : ℤ) → exactly w (a.constant *ℤ b.constant) ≡ exacts.Is x → formula w a b ≡ exacts.Is k → FormulaFits w a b
+  pub formula-fits : (x k : ℤ) → exactly w (a.constant *ℤ b.constant) ≡ Some x → formula w a b ≡ Some k → FormulaFits w a b
   unfolding formula
   formula-fits x k i h =
       let p = combined w (gcd_then w (exactly w (a.modulus *ℤ b.modulus)) (exactly w (a.modulus *ℤ b.constant))) (exactly w (b.modulus *ℤ a.constant)) k h in
@@ -289,7 +288,7 @@ module _ (w : Width) (a b : Congruence) where
         divisor = subst (λ t. SFits w t) (formula-is k h).0 (formula-is k h).1;
       }
     where
-      found : (z k : ℤ) → exactly w z ≡ exacts.Is k → SFits w z
+      found : (z k : ℤ) → exactly w z ≡ Some k → SFits w z
       found z k e = yes (fits-test w z) (found-fits w z k e)
 
   pub product_is : Proper w a → Proper w b → ProductOf w a b (product w a b)

@@ -8,22 +8,15 @@ use native.Mathlib.Omega.{arith}
 use lib.IntN.{ℤ}
 use mir.Syntax.{Width, w64}
 use mir.Val.{SFits}
+use Rattle.refusal.specs.declared.Refusal.{Refusal}
+use Rattle.std.specs.declared.cmp.Ordering.{Ordering}
+use Rattle.std.specs.Prelude.{Err, None, Ok, Option, Result, Some}
 use Rattle.whole.specs.Test.{◌≤?◌, ◌<?◌, ◌≟◌}
-use Rattle.whole.specs.declared.Order.{Order}
 use Rattle.whole.proofs.Decides.{both, branch, is_true, is_false, is-fit, yes, no}
-use Rattle.refusal.specs.Answer.{is}
+use Rattle.refusal.specs.Answer.{is, told}
 use Rattle.refusal.proofs.Claims.{number-tells}
 use Rattle.congruence.specs.declared.Congruence.{Congruence}
-use Rattle.congruence.specs.declared.CongruenceAnswer.{CongruenceAnswer}
-use Rattle.congruence.specs.declared.CongruenceAnswer.TheVariants as value
-use Rattle.congruence.specs.declared.TruthAnswer.{TruthAnswer}
-use Rattle.congruence.specs.declared.TruthAnswer.TheVariants as truths
-use Rattle.congruence.specs.declared.OrderAnswer.{OrderAnswer}
-use Rattle.congruence.specs.declared.OrderAnswer.TheVariants as orders
-use Rattle.congruence.specs.declared.SingleAnswer.{SingleAnswer}
-use Rattle.congruence.specs.declared.SingleAnswer.TheVariants as singles
 use Rattle.congruence.specs.Set.{bottom, ◌∈◌, ◌⊆◌, domain?, domain_at?, Value, InDomain, Canonical, form, Proper}
-use Rattle.congruence.specs.Answer.{told, truth_told, order_told, single_told}
 use Rattle.congruence.specs.Meaning.{Answers, outside, inside, Both, Mends, Disjoint, Ordered, equal, less, greater, unordered, JoinOf, MeetOf, Negation, Sum, Difference, Exactly, ProductOf, CoversProducts, QuotientOf, CoversQuotients, EqualityOf, ComparisonOf, Shows}
 use Rattle.congruence.specs.Mended as mended
 use Rattle.congruence.proofs.Sets.{form_in, form-out, form-proper, domain-at-test}
@@ -37,34 +30,34 @@ use Rattle.congruence.proofs.Comparisons as comparisons
 
 -- ---- two answers that tell the same are the same, so a contract on what is told fixes the answer
 
-pub answer-fixed : (r s : CongruenceAnswer) → told r ≡ told s → r ≡ s
-answer-fixed (value.Is u) (value.Is v) e = cc
-answer-fixed (value.Is u) (value.Refused r) e = let z : ◌≡◌ {A = ℕ} 0 1 = cc in absurd (omega arith)
-answer-fixed (value.Refused q) (value.Is v) e = let z : ◌≡◌ {A = ℕ} 0 1 = cc in absurd (omega arith)
-answer-fixed (value.Refused q) (value.Refused r) e = ap value.Refused (number-tells q r cc)
+pub answer-fixed : (r s : Result Congruence Refusal) → told r ≡ told s → r ≡ s
+answer-fixed (Ok u) (Ok v) e = cc
+answer-fixed (Ok u) (Err r) e = let z : ◌≡◌ {A = ℕ} 0 1 = cc in absurd (omega arith)
+answer-fixed (Err q) (Ok v) e = let z : ◌≡◌ {A = ℕ} 0 1 = cc in absurd (omega arith)
+answer-fixed (Err q) (Err r) e = ap Err (number-tells q r cc)
 
-pub truth-fixed : (r s : TruthAnswer) → truth_told r ≡ truth_told s → r ≡ s
-truth-fixed (truths.Is u) (truths.Is v) e = cc
-truth-fixed (truths.Is u) (truths.Refused r) e = let z : ◌≡◌ {A = ℕ} 0 1 = cc in absurd (omega arith)
-truth-fixed (truths.Refused q) (truths.Is v) e = let z : ◌≡◌ {A = ℕ} 0 1 = cc in absurd (omega arith)
-truth-fixed (truths.Refused q) (truths.Refused r) e = ap truths.Refused (number-tells q r cc)
+pub truth-fixed : (r s : Result Bool Refusal) → told r ≡ told s → r ≡ s
+truth-fixed (Ok u) (Ok v) e = cc
+truth-fixed (Ok u) (Err r) e = let z : ◌≡◌ {A = ℕ} 0 1 = cc in absurd (omega arith)
+truth-fixed (Err q) (Ok v) e = let z : ◌≡◌ {A = ℕ} 0 1 = cc in absurd (omega arith)
+truth-fixed (Err q) (Err r) e = ap Err (number-tells q r cc)
 
-pub order-fixed : (r s : OrderAnswer) → order_told r ≡ order_told s → r ≡ s
-order-fixed (orders.Is u) (orders.Is v) e = cc
-order-fixed (orders.Is u) (orders.Refused r) e = let z : ◌≡◌ {A = ℕ} 0 1 = cc in absurd (omega arith)
-order-fixed (orders.Refused q) (orders.Is v) e = let z : ◌≡◌ {A = ℕ} 0 1 = cc in absurd (omega arith)
-order-fixed (orders.Refused q) (orders.Refused r) e = ap orders.Refused (number-tells q r cc)
+pub order-fixed : (r s : Result (Option Ordering) Refusal) → told r ≡ told s → r ≡ s
+order-fixed (Ok u) (Ok v) e = cc
+order-fixed (Ok u) (Err r) e = let z : ◌≡◌ {A = ℕ} 0 1 = cc in absurd (omega arith)
+order-fixed (Err q) (Ok v) e = let z : ◌≡◌ {A = ℕ} 0 1 = cc in absurd (omega arith)
+order-fixed (Err q) (Err r) e = ap Err (number-tells q r cc)
 
-pub single-fixed : (r s : SingleAnswer) → single_told r ≡ single_told s → r ≡ s
-single-fixed (singles.Is u) (singles.Is v) e = cc
-single-fixed (singles.Is u) singles.None e = let z : ◌≡◌ {A = ℕ} 0 1 = cc in absurd (omega arith)
-single-fixed (singles.Is u) (singles.Refused r) e = let z : ◌≡◌ {A = ℕ} 0 1 = cc in absurd (omega arith)
-single-fixed singles.None (singles.Is v) e = let z : ◌≡◌ {A = ℕ} 0 1 = cc in absurd (omega arith)
-single-fixed singles.None singles.None e = refl
-single-fixed singles.None (singles.Refused r) e = let z : ◌≡◌ {A = ℕ} 0 1 = cc in absurd (omega arith)
-single-fixed (singles.Refused q) (singles.Is v) e = let z : ◌≡◌ {A = ℕ} 0 1 = cc in absurd (omega arith)
-single-fixed (singles.Refused q) singles.None e = let z : ◌≡◌ {A = ℕ} 0 1 = cc in absurd (omega arith)
-single-fixed (singles.Refused q) (singles.Refused r) e = ap singles.Refused (number-tells q r cc)
+pub single-fixed : (r s : Result (Option ℤ) Refusal) → told r ≡ told s → r ≡ s
+single-fixed (Ok (Some u)) (Ok (Some v)) e = cc
+single-fixed (Ok (Some u)) (Ok None) e = let z : ◌≡◌ {A = ℕ} 0 1 = cc in absurd (omega arith)
+single-fixed (Ok (Some u)) (Err r) e = let z : ◌≡◌ {A = ℕ} 0 1 = cc in absurd (omega arith)
+single-fixed (Ok None) (Ok (Some v)) e = let z : ◌≡◌ {A = ℕ} 0 1 = cc in absurd (omega arith)
+single-fixed (Ok None) (Ok None) e = refl
+single-fixed (Ok None) (Err r) e = let z : ◌≡◌ {A = ℕ} 0 1 = cc in absurd (omega arith)
+single-fixed (Err q) (Ok (Some v)) e = let z : ◌≡◌ {A = ℕ} 0 1 = cc in absurd (omega arith)
+single-fixed (Err q) (Ok None) e = let z : ◌≡◌ {A = ℕ} 0 1 = cc in absurd (omega arith)
+single-fixed (Err q) (Err r) e = ap Err (number-tells q r cc)
 
 -- ---- the canonical form
 
@@ -119,7 +112,7 @@ module _ (w : Width) (a b : Congruence) where
       (λ e. (forms.disjoint-of a b).0 (yes (lattice.apart-test (form a) (form b)) e), λ f. is_true (lattice.apart-test (form a) (form b)) (λ s. let t = (forms.shared_of a b).0 s in f t.number t.left t.right)))
 
   -- the order is inclusion
-  pub order-right : Answers Order (Both w a b) (Ordered (a ⊆ b) (b ⊆ a)) (mended.partial_cmp w a b)
+  pub order-right : Answers (Option Ordering) (Both w a b) (Ordered (a ⊆ b) (b ⊆ a)) (mended.partial_cmp w a b)
   unfolding mended.inclusion
   order-right = answers w a b mended.inclusion (Ordered (a ⊆ b) (b ⊆ a)) (λ p q.
       branch (lattice.inside-test (form a) (form b)) (Ordered (a ⊆ b) (b ⊆ a))

@@ -8,9 +8,10 @@ use lib.Signed.{◌≤ℤ◌, ◌<ℤ◌, quot_z}
 use lib.Pow.{pow_pos}
 use mir.Syntax.{Width}
 use mir.Val.{SFits, hbits}
+use Rattle.std.specs.declared.cmp.Ordering.{Ordering}
+use Rattle.std.specs.Prelude.{Option}
 use Rattle.whole.specs.Range.{least, greatest}
 use Rattle.whole.specs.Divides.{◌∣ℤ◌}
-use Rattle.whole.specs.declared.Order.{Order}
 use Rattle.whole.proofs.Linear.{ints, wholes, read}
 use Rattle.whole.proofs.Fits.{high}
 use Rattle.whole.proofs.Divide.{quot-minus}
@@ -154,7 +155,7 @@ truth-one true t f g = sym (g.1 (f.0 refl))
 truth-one false true f g = f.1 (g.0 refl)
 truth-one false false f g = refl
 
-pub order-one : {P Q : Type 0} (o k : Order) → Ordered P Q o → Ordered P Q k → o ≡ k
+pub order-one : {P Q : Type 0} (o k : Option Ordering) → Ordered P Q o → Ordered P Q k → o ≡ k
 order-one _ _ (equal p q) (equal r s) = refl
 order-one _ _ (equal p q) (less r s) = absurd (s q)
 order-one _ _ (equal p q) (greater r s) = absurd (r p)

@@ -3,11 +3,11 @@ use mathlib.Core.Path.{◌≡◌, refl}
 use mathlib.Core.Bool.{Bool, true, not, false, ◌&&◌, ◌||◌}
 use lib.IntN.{pos, negsuc}
 use mir.Syntax.{Width, w64}
+use Rattle.std.specs.Prelude.{None}
 use Rattle.whole.specs.Test.{◌≤?◌, ◌<?◌, ◌≟◌, truth}
 use Rattle.whole.specs.Range.{fits?}
 use Rattle.whole.specs.Divides.{steps, gcd, lcm}
 use Rattle.whole.specs.Exact.{exactly}
-use Rattle.whole.specs.declared.Order.TheVariants.{None}
 use Rattle.whole.proofs.Decides.{yes, no}
 use Rattle.refusal.specs.Answer.{is}
 use Rattle.congruence.specs.declared.Congruence.{Congruence}

@@ -8,10 +8,9 @@ use lib.IntN.{ℤ, pos, neg_ℤ, nat_abs, ◌+ℤ◌, ◌-ℤ◌, ◌*ℤ◌}
 use lib.Signed.{◌≤ℤ◌, ◌<ℤ◌, quot_z, rem_z}
 use mir.Syntax.{Width, w64}
 use mir.Val.{SFits}
+use Rattle.std.specs.Prelude.{None, Option, Some}
 use Rattle.whole.specs.Divides.{◌∣ℤ◌, gcd, Cong}
 use Rattle.whole.specs.Exact.{exactly}
-use Rattle.whole.specs.declared.Exact.{Exact}
-use Rattle.whole.specs.declared.Exact.TheVariants as exacts
 use Rattle.whole.proofs.Linear.{ints, wholes, read, abs, from-≢}
 use Rattle.whole.proofs.Fits.{machine, range}
 use Rattle.whole.proofs.Decides.{Decides, holds, fails, eq_test, lt_test, fits-test, both, either, branch, is_false, is-fit, not_beyond, yes}
@@ -25,7 +24,7 @@ use Rattle.congruence.specs.declared.Congruence.{Congruence}
 use Rattle.congruence.specs.Set.{cong, top, bottom, bottom?, ◌∈◌, domain?, Value, alone, spaced, InDomain}
 use Rattle.congruence.specs.Numbers.{gcd_then, abs_then, formula}
 use Rattle.congruence.specs.Answer.{within}
-use Rattle.congruence.specs.Meaning.{Both, Negation, Sum, Difference, formula_gcd, Ports, not-in-domain, does-not-fit, would-assert, gives, Fits, Just, Some, Asserting, Least, JoinOver, NegOver, NegAsserts, AddOver, MulOver, DifferenceOver, opposite-over, difference-over, PortedProduct, CoversProducts, CoversQuotients, DividedBy, QuotientOver, quotient-over, QuotientAsserts, quotient-asserts, PortedQuotient}
+use Rattle.congruence.specs.Meaning.{Both, Negation, Sum, Difference, formula_gcd, Ports, not-in-domain, does-not-fit, would-assert, gives, Fits, Just, Inhabited, Asserting, Least, JoinOver, NegOver, NegAsserts, AddOver, MulOver, DifferenceOver, opposite-over, difference-over, PortedProduct, CoversProducts, CoversQuotients, DividedBy, QuotientOver, quotient-over, QuotientAsserts, quotient-asserts, PortedQuotient}
 use Rattle.congruence.specs.Ported as ported
 use Rattle.congruence.specs.Ported.{gcd_of, normalize, made, held, asserted, joined, negated, added, added_to, subtracted, multiplied, divided_by, divided, only?}
 use Rattle.congruence.proofs.Sets.{clash, bottom-test, none, all, single-is, value-test, value-positive}
@@ -51,17 +50,17 @@ normalize-class c k x = branch (eq_test (pos k) (pos 0)) (λ (t : Congruence). x
         omega (ints, abs (rem_z c (pos k))))
 
 module _ (P : Answer Congruence → Type 0) where
-  made-cases : (c m : Exact) → (m ≡ exacts.DoesNotFit → P (refused 2)) → (c ≡ exacts.DoesNotFit → P (refused 2)) → ((z k : ℤ) → c ≡ exacts.Is z → m ≡ exacts.Is k → P (is (normalize z k))) → P (made c m)
+  made-cases : (c m : Option ℤ) → (m ≡ None → P (refused 2)) → (c ≡ None → P (refused 2)) → ((z k : ℤ) → c ≡ Some z → m ≡ Some k → P (is (normalize z k))) → P (made c m)
   unfolding made
-  made-cases c exacts.DoesNotFit f g h = f refl
-  made-cases exacts.DoesNotFit (exacts.Is m) f g h = g refl
-  made-cases (exacts.Is c) (exacts.Is m) f g h = h c m refl refl
+  made-cases c None f g h = f refl
+  made-cases None (Some m) f g h = g refl
+  made-cases (Some c) (Some m) f g h = h c m refl refl
 
-  asserted-cases : (c m : Exact) → (c ≡ exacts.DoesNotFit → P (refused 2)) → (m ≡ exacts.DoesNotFit → P (refused 2)) → ((z k : ℤ) → c ≡ exacts.Is z → m ≡ exacts.Is k → P (held z k)) → P (asserted c m)
+  asserted-cases : (c m : Option ℤ) → (c ≡ None → P (refused 2)) → (m ≡ None → P (refused 2)) → ((z k : ℤ) → c ≡ Some z → m ≡ Some k → P (held z k)) → P (asserted c m)
   unfolding asserted
-  asserted-cases exacts.DoesNotFit m f g h = f refl
-  asserted-cases (exacts.Is c) exacts.DoesNotFit f g h = g refl
-  asserted-cases (exacts.Is c) (exacts.Is m) f g h = h c m refl refl
+  asserted-cases None m f g h = f refl
+  asserted-cases (Some c) None f g h = g refl
+  asserted-cases (Some c) (Some m) f g h = h c m refl refl
 
   held-cases : (c m : ℤ) → (Asserting c m → P (refused 3)) → ((Asserting c m → ⊥) → P (is (cong c m))) → P (held c m)
   unfolding held
@@ -83,17 +82,17 @@ abs-then-all w z = branch (fits-test w z) (λ e. abs_then w e ≡ exactly w (pos
     back : SFits w (pos (nat_abs z)) → SFits w z
     back f = omega (machine, range f, abs z)
 
-found : {w : Width} {z k : ℤ} → exactly w z ≡ exacts.Is k → SFits w z
+found : {w : Width} {z k : ℤ} → exactly w z ≡ Some k → SFits w z
 found {w} {z} {k} e = yes (fits-test w z) (found-fits w z k e)
 
-unfound : {w : Width} {z : ℤ} → exactly w z ≡ exacts.DoesNotFit → SFits w z → ⊥
+unfound : {w : Width} {z : ℤ} → exactly w z ≡ None → SFits w z → ⊥
 unfound {w} {z} e f = clash (sym (is-fit f) ∙ not_found w z e)
 
 -- two things that an exact number can't be
-other : {e : Exact} {k : ℤ} → e ≡ exacts.Is k → e ≡ exacts.DoesNotFit → ⊥
+other : {e : Option ℤ} {k : ℤ} → e ≡ Some k → e ≡ None → ⊥
 other i j = let z : ◌≡◌ {A = ℕ} 0 1 = cc in omega arith
 
-one_number : {k l : ℤ} → ◌≡◌ {A = Exact} (exacts.Is k) (exacts.Is l) → k ≡ l
+one_number : {k l : ℤ} → ◌≡◌ {A = Option ℤ} (Some k) (Some l) → k ≡ l
 one_number e = cc
 
 -- two that are one and the same third
@@ -117,22 +116,22 @@ module _ (a b : Congruence) (fa : Fits w64 a) (fb : Fits w64 b) where
       own-abs : (m : ℤ) → pos 0 ≤ℤ m → m ≡ pos (nat_abs m)
       own-abs m h = omega (ints, abs m)
 
-  moduli-found : D → gcd_of a.modulus b.modulus ≡ exacts.Is (pos (gcd (nat_abs a.modulus) (nat_abs b.modulus)))
+  moduli-found : D → gcd_of a.modulus b.modulus ≡ Some (pos (gcd (nat_abs a.modulus) (nat_abs b.modulus)))
   unfolding exactly
   moduli-found d = rw (is-fit (moduli-fit a b w64 (modulus-abs a d.0) (modulus-abs b d.1))) refl
 
   -- ---- join
 
-  abbrev distance : Exact
+  abbrev distance : Option ℤ
   distance = abs_then w64 (exactly w64 (a.constant -ℤ b.constant))
 
-  abbrev spacing : Exact
+  abbrev spacing : Option ℤ
   spacing = gcd_then w64 (gcd_of a.modulus b.modulus) distance
 
   distance_is : distance ≡ exactly w64 (pos (nat_abs (a.constant -ℤ b.constant)))
   distance_is = abs-then-all w64 (a.constant -ℤ b.constant)
 
-  spread-found : D → SFits w64 (pos (nat_abs (a.constant -ℤ b.constant))) → spacing ≡ exacts.Is (pos (spread w64 a b))
+  spread-found : D → SFits w64 (pos (nat_abs (a.constant -ℤ b.constant))) → spacing ≡ Some (pos (spread w64 a b))
   unfolding gcd_then exactly
   spread-found d f = rw (moduli-found d, distance_is, is-fit f, is-fit (gcd-of w64 (gcd (nat_abs a.modulus) (nat_abs b.modulus)) (nat_abs (a.constant -ℤ b.constant)) (moduli-fit a b w64 (modulus-abs a d.0) (modulus-abs b d.1)) f)) refl
 
@@ -143,8 +142,8 @@ module _ (a b : Congruence) (fa : Fits w64 a) (fb : Fits w64 b) where
     least = λ c f g x h. spread-least w64 a b (is_false (bottom-test a) na) (is_false (bottom-test b) nb) c f g x ((normalize-class a.constant (spread w64 a b) x).0 h);
   }
 
-  joined-classes : D → a ≢ bottom → b ≢ bottom → Ports D (JoinOver a b) ⊥ (Least a b) (made (exacts.Is a.constant) spacing)
-  joined-classes d na nb = made-cases (Ports D (JoinOver a b) ⊥ (Least a b)) (exacts.Is a.constant) spacing
+  joined-classes : D → a ≢ bottom → b ≢ bottom → Ports D (JoinOver a b) ⊥ (Least a b) (made (Some a.constant) spacing)
+  joined-classes d na nb = made-cases (Ports D (JoinOver a b) ⊥ (Least a b)) (Some a.constant) spacing
       (λ e. does-not-fit d ((na, nb), λ f. other (spread-found d f) e))
       (λ e. absurd (other refl e))
       (λ z k i j.
@@ -205,7 +204,7 @@ module _ (a : Congruence) (fa : Fits w64 a) where
   unfolding negated
   negated-ports d = branch (bottom-test a) (Negates)
       (λ e. gives a d (λ o. o.0 e) (λ s. s.some e) (λ z. (λ h. absurd (no_number e h), λ s. absurd (no_number e s.of))))
-      (λ n. asserted-cases (Negates) (exactly w64 (neg_ℤ a.constant)) (exacts.Is a.modulus)
+      (λ n. asserted-cases (Negates) (exactly w64 (neg_ℤ a.constant)) (Some a.modulus)
       (λ e. does-not-fit d (n, unfound e))
       (λ e. absurd (other refl e))
       (λ z k i j. subst (Negates) (ap₂ held (sym (found-is w64 (neg_ℤ a.constant) z i)) (one_number j))
@@ -278,7 +277,7 @@ module _ (a b : Congruence) (fa : Fits w64 a) (fb : Fits w64 b) where
   pub sub-ported : Subtracts (ported.sub a b)
   unfolding subtracted added_to negated
   sub-ported = ported-two a b fa fb (subtracted a b) (λ d. branch (bottom-test b) (λ r. Subtracts (added_to a r)) (λ e. less-nothing d e)
-      (λ n. asserted-cases (λ r. Subtracts (added_to a r)) (exactly w64 (neg_ℤ b.constant)) (exacts.Is b.modulus)
+      (λ n. asserted-cases (λ r. Subtracts (added_to a r)) (exactly w64 (neg_ℤ b.constant)) (Some b.modulus)
       (λ e. does-not-fit d (opposite-over n (unfound e)))
       (λ e. absurd (other refl e))
       (λ z k i j. subst (λ r. Subtracts (added_to a r)) (ap₂ held (sym (found-is w64 (neg_ℤ b.constant) z i)) (one_number j))
@@ -295,7 +294,7 @@ module _ (a b : Congruence) (fa : Fits w64 a) (fb : Fits w64 b) where
   Divides = Ports (Both w64 a b) (QuotientOver a b) (QuotientAsserts a b) Quotients
 
   -- top: no divisor divides both
-  open-quotient : Both w64 a b → Some a b → b ≢ cong (pos 0) (pos 0) → ((d : ℤ) → DividedBy a b d → ⊥) → Divides (is top)
+  open-quotient : Both w64 a b → Inhabited a b → b ≢ cong (pos 0) (pos 0) → ((d : ℤ) → DividedBy a b d → ⊥) → Divides (is top)
   open-quotient d s n f = gives top d over_none asserts-none (record { none = λ i. absurd (nothing-none i); divided = λ k h. absurd (f k h); unknown = λ t m g. refl }, λ x y h k m g. all (quot_z x y))
     where
       over_none : QuotientOver a b → ⊥
@@ -322,7 +321,7 @@ module _ (a b : Congruence) (fa : Fits w64 a) (fb : Fits w64 b) where
       asserts-none : QuotientAsserts a b → ⊥
       asserts-none (quotient-asserts k h g l) = clear e h
 
-      nothing : Some a b → b ≢ cong (pos 0) (pos 0) → ((a ≡ bottom) ⊎ (b ≡ bottom)) ⊎ (b ≡ cong (pos 0) (pos 0)) → ⊥
+      nothing : Inhabited a b → b ≢ cong (pos 0) (pos 0) → ((a ≡ bottom) ⊎ (b ≡ bottom)) ⊎ (b ≡ cong (pos 0) (pos 0)) → ⊥
       nothing s n (inl i) = nor s.0 s.1 i
       nothing s n (inr i) = n i
 

@@ -6,11 +6,11 @@ use Prim.Native.Nat.{ℕ}
 use lib.IntN.{ℤ, pos}
 use mir.Syntax.{Width}
 use mir.Val.{SFits}
+use Rattle.std.specs.Prelude.{None, Some}
 use Rattle.whole.specs.Choice.{pick}
 use Rattle.whole.specs.Range.{fits?}
 use Rattle.whole.specs.Divides.{Cong, floor_rem}
 use Rattle.whole.specs.Exact.{exactly}
-use Rattle.whole.specs.declared.Exact.TheVariants as exacts
 use Rattle.whole.proofs.Decides.{branch, fits-test, eqb-test, is-fit, not_beyond}
 use Rattle.congruence.specs.Set.{cong, top, bottom, ◌∈◌, Proper}
 use Rattle.congruence.specs.Meaning.{Exactly, exact, over}
@@ -22,7 +22,7 @@ module _ (w : Width) (z : ℤ) (m : ℕ) where
   unfolding class_of result_of exactly
   class-is = go (fits? w (pos m))
     where
-      go : (t : Bool) → result_of (exacts.Is z) (pick t (exacts.Is (pos m)) exacts.DoesNotFit) top ≡ pick t (cong (floor_rem z (pos m)) (pos m)) top
+      go : (t : Bool) → result_of (Some z) (pick t (Some (pos m)) None) top ≡ pick t (cong (floor_rem z (pos m)) (pos m)) top
       go true = refl
       go false = refl
 
@@ -44,7 +44,7 @@ module _ (w : Width) (z : ℤ) (m : ℕ) where
   unfolding only_of exactly
   only-is = go (fits? w z)
     where
-      go : (t : Bool) → only_of (pick t (exacts.Is z) exacts.DoesNotFit) ≡ pick t (cong z (pos 0)) bottom
+      go : (t : Bool) → only_of (pick t (Some z) None) ≡ pick t (cong z (pos 0)) bottom
       go true = refl
       go false = refl
 

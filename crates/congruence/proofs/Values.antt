@@ -1,20 +1,22 @@
 -- What `search` is handed for the definitions on congruences, beside the `flags` of whole numbers.
-use mathlib.Core.Path.{◌≡◌, refl, sym, ap, ap₂, ◌∙◌}
+use mathlib.Core.Path.{◌≡◌, refl, sym, ap, ap₂, ◌∙◌, subst}
 use mathlib.Core.Bool.{Bool, true, false, not, ◌&&◌, ◌||◌}
 use Prim.Native.Nat.{ℕ}
 use lib.Dec.{eqb}
 use lib.IntN.{ℤ, pos}
 use mir.Syntax.{Width, w64}
-use mir.Val.{SFits, to_z, of_z}
-use mir.Facts.{to_z-of_z}
+use mir.Val.{SFits, of_z}
+use Rattle.std.specs.Bool.{one_answer}
+use Rattle.std.specs.Cmp.{signed_Decides}
+use Rattle.std.specs.Ordering.{int_eq}
 use Rattle.whole.specs.Test.{◌≟◌}
+use Rattle.whole.proofs.Decides.{eq_test, equal, yes}
 use Rattle.whole.proofs.Fits.{machine, zero-fits}
 use Rattle.whole.proofs.Flags.{bools, eq_yes, eq-no-64, eq_is}
 use Rattle.refusal.specs.Answer.{Answer, is}
 use Rattle.congruence.specs.declared.Congruence.{Congruence}
 use Rattle.congruence.specs.Answer.{within}
 use Rattle.congruence.specs.Set.{cong, bottom?, domain?, domain_at?, singles?, form}
-use Rattle.congruence.specs.Numbers.{divides?}
 use Rattle.congruence.specs.Ported as ported
 use Rattle.congruence.specs.Mended as mended
 
@@ -38,25 +40,21 @@ singles-told a b r t p q = sym p ∙ q
 pub only-told : (a : Congruence) (k : ℤ) (r t : Bool) → r ≡ ported.only? a k → r ≡ t → ported.only? a k ≡ t
 only-told a k r t p q = sym p ∙ q
 
-pub same-told : (a b : Congruence) (r t : Bool) → r ≡ ported.same? a b → r ≡ t → ported.same? a b ≡ t
-same-told a b r t p q = sym p ∙ q
+-- the derived `==`
+pub eq-number : (x y : ℤ) → int_eq x y ≡ (x ≟ y)
+eq-number x y = one_answer (int_eq x y) (x ≟ y) (signed_Decides x y) (yes (eq_test x y), λ e. subst (λ c. (x ≟ c) ≡ true) e (equal x))
+
+pub same-told : (a b : Congruence) (r t : Bool) → r ≡ (int_eq a.constant b.constant && int_eq a.modulus b.modulus) → r ≡ t → ported.same? a b ≡ t
+unfolding ported.same?
+same-told a b r t p q = sym (p ∙ ap₂ ◌&&◌ (eq-number a.constant b.constant) (eq-number a.modulus b.modulus)) ∙ q
 
 pub below-told : (a b : Congruence) (r t : Bool) → r ≡ ported.below? a b → r ≡ t → ported.below? a b ≡ t
 below-told a b r t p q = sym p ∙ q
 
-pub divides-call : (a : Congruence) (d : ℤ) (r t : Bool) → r ≡ divides? (to_z w64 (of_z w64 d)) a → SFits w64 d → r ≡ t → divides? d a ≡ t
-divides-call a d r t h p q = sym (simp (to_z-of_z p) at h) ∙ q
-
-pub inside-told : (a b : Congruence) (r t : Bool) → r ≡ mended.inside? a b → r ≡ t → mended.inside? a b ≡ t
-inside-told a b r t p q = sym p ∙ q
-
-pub apart-told : (a b : Congruence) (r t : Bool) → r ≡ mended.apart? a b → r ≡ t → mended.apart? a b ≡ t
-apart-told a b r t p q = sym p ∙ q
-
--- what an operation answers, by what its calls ensure: the test of the domain, the two canonical forms and the rule
-pub framed : {A : Type 0} (rule : Congruence → Congruence → A) {a b x y : Congruence} {t s : Bool} {v : A} {r : Answer A} →
-    r ≡ within t (is v) → t ≡ s → v ≡ rule x y → x ≡ a → y ≡ b → r ≡ within s (is (rule a b))
-framed rule h p q i j = h ∙ ap₂ (λ s v. within s (is v)) p (q ∙ ap₂ rule i j)
+-- the test that `need` let through
+pub admitted : {t : Bool} {u : Unit {0}} → ◌≡◌ {A = Answer (Unit {0})} (is u) (within t (is tt)) → t ≡ true
+admitted {t = true} h = refl
+admitted {t = false} h = cc
 
 -- a comparison the other way round
 pub turned : (w : Width) (test : ℤ → ℤ → Bool) (a b : Congruence) → mended.on_forms w (mended.comparison test) a b ≡ mended.on_forms w (mended.comparison (λ x y. test y x)) b a

@@ -1,14 +1,14 @@
 -- What document 01 says of each mended operation: when it is refused, and what is said of its answer, by the numbers that the values stand for.
 -- Together with `Proper` each leaves one answer.
-use Rattle.std.specs.Prelude.{◌≡◌, Bool, ◌≢◌, ◌↔◌, ◌⊎◌, ℕ, ℤ, pos, negsuc, neg_ℤ, nat_abs, ◌+ℤ◌, ◌-ℤ◌, ◌*ℤ◌, ◌≤ℤ◌, ◌<ℤ◌}
+use Rattle.std.specs.declared.cmp.Ordering.{Ordering}
+use Rattle.std.specs.declared.cmp.Ordering.TheVariants.{Equal, Greater, Less}
+use Rattle.std.specs.Prelude.{◌≡◌, Bool, ◌≢◌, ◌↔◌, ◌⊎◌, ℕ, ℤ, pos, negsuc, neg_ℤ, nat_abs, ◌+ℤ◌, ◌-ℤ◌, ◌*ℤ◌, ◌≤ℤ◌, ◌<ℤ◌, None, Option, Some}
 use Rattle.std.specs.Int.Signed.{quot_z}
 use Rattle.std.specs.Int.{Width, w64}
 use Rattle.std.proofs.Common.{SFits}
 use Rattle.whole.specs.Test.{truth}
 use Rattle.whole.specs.Range.{least, greatest}
 use Rattle.whole.specs.Divides.{◌∣ℤ◌, gcd, lcm, Cong, floor_rem}
-use Rattle.whole.specs.declared.Order.{Order}
-use Rattle.whole.specs.declared.Order.TheVariants.{Less, Equal, Greater, None}
 use Rattle.refusal.specs.Answer.{Answer, is, refused}
 use Rattle.congruence.specs.declared.Congruence.{Congruence}
 use Rattle.congruence.specs.Set.{cong, top, bottom, ◌∈◌, ◌⊆◌, InDomain, form, Proper}
@@ -40,10 +40,10 @@ abbrev pub Disjoint : Congruence → Congruence → Type 0
 Disjoint a b = (x : ℤ) → x ∈ a → x ∈ b → ⊥
 
 -- how two statements lie to each other
-pub data Ordered (P Q : Type 0) : Order → Type 0 where
-  equal : P → Q → Ordered P Q Equal
-  less : P → (Q → ⊥) → Ordered P Q Less
-  greater : (P → ⊥) → Q → Ordered P Q Greater
+pub data Ordered (P Q : Type 0) : Option Ordering → Type 0 where
+  equal : P → Q → Ordered P Q (Some Equal)
+  less : P → (Q → ⊥) → Ordered P Q (Some Less)
+  greater : (P → ⊥) → Q → Ordered P Q (Some Greater)
   unordered : (P → ⊥) → (Q → ⊥) → Ordered P Q None
 
 -- two single numbers; more than MAX apart
@@ -182,8 +182,8 @@ abbrev pub Just : (ℤ → Type 0) → Congruence → Type 0
 Just R v = (z : ℤ) → z ∈ v ↔ R z
 
 -- neither is bottom
-abbrev pub Some : Congruence → Congruence → Type 0
-Some a b = (a ≢ bottom) × (b ≢ bottom)
+abbrev pub Inhabited : Congruence → Congruence → Type 0
+Inhabited a b = (a ≢ bottom) × (b ≢ bottom)
 
 -- what `from` asserts doesn't hold: m = 0 or c < m
 abbrev pub Asserting : ℤ → ℤ → Type 0
@@ -196,7 +196,7 @@ pub record Least (a b v : Congruence) : Type 0 where
   pub least : (d : Congruence) → a ⊆ d → b ⊆ d → v ⊆ d
 
 abbrev pub JoinOver : Congruence → Congruence → Type 0
-JoinOver a b = Some a b × (SFits w64 (pos (nat_abs (a.constant -ℤ b.constant))) → ⊥)
+JoinOver a b = Inhabited a b × (SFits w64 (pos (nat_abs (a.constant -ℤ b.constant))) → ⊥)
 
 abbrev pub NegOver : Congruence → Type 0
 NegOver a = (a ≢ bottom) × (SFits w64 (neg_ℤ a.constant) → ⊥)
@@ -207,20 +207,20 @@ pub record NegAsserts (a : Congruence) : Type 0 where
   pub asserts : Asserting (neg_ℤ a.constant) a.modulus
 
 abbrev pub AddOver : Congruence → Congruence → Type 0
-AddOver a b = Some a b × (SFits w64 (a.constant +ℤ b.constant) → ⊥)
+AddOver a b = Inhabited a b × (SFits w64 (a.constant +ℤ b.constant) → ⊥)
 
 -- of a difference the negation goes first, even beside bottom
 pub data DifferenceOver (a b : Congruence) : Type 0 where
   opposite-over : b ≢ bottom → (SFits w64 (neg_ℤ b.constant) → ⊥) → DifferenceOver a b
-  difference-over : Some a b → SFits w64 (neg_ℤ b.constant) → (Asserting (neg_ℤ b.constant) b.modulus → ⊥) → (SFits w64 (a.constant -ℤ b.constant) → ⊥) → DifferenceOver a b
+  difference-over : Inhabited a b → SFits w64 (neg_ℤ b.constant) → (Asserting (neg_ℤ b.constant) b.modulus → ⊥) → (SFits w64 (a.constant -ℤ b.constant) → ⊥) → DifferenceOver a b
 
 abbrev pub MulOver : Congruence → Congruence → Type 0
-MulOver a b = Some a b × (FormulaFits w64 a b → ⊥)
+MulOver a b = Inhabited a b × (FormulaFits w64 a b → ⊥)
 
 -- the class that 000's formula gives; bottom in, bottom out
 pub record PortedProduct (a b v : Congruence) : Type 0 where
   pub none : (a ≡ bottom) ⊎ (b ≡ bottom) → v ≡ bottom
-  pub class : Some a b → (x : ℤ) → x ∈ v ↔ Cong (formula_gcd a b) x (a.constant *ℤ b.constant)
+  pub class : Inhabited a b → (x : ℤ) → x ∈ v ↔ Cong (formula_gcd a b) x (a.constant *ℤ b.constant)
 
 -- d is the divisor, another number than 0, and divides constant and modulus
 pub record DividedBy (a b : Congruence) (d : ℤ) : Type 0 where
@@ -240,4 +240,4 @@ pub data QuotientAsserts (a b : Congruence) : Type 0 where
 pub record PortedQuotient (a b v : Congruence) : Type 0 where
   pub none : ((a ≡ bottom) ⊎ (b ≡ bottom)) ⊎ (b ≡ cong (pos 0) (pos 0)) → v ≡ bottom
   pub divided : (d : ℤ) → DividedBy a b d → v ≡ cong (quot_z a.constant d) (quot_z a.modulus d)
-  pub unknown : Some a b → b ≢ cong (pos 0) (pos 0) → ((d : ℤ) → DividedBy a b d → ⊥) → v ≡ top
+  pub unknown : Inhabited a b → b ≢ cong (pos 0) (pos 0) → ((d : ℤ) → DividedBy a b d → ⊥) → v ≡ top

@@ -1,5 +1,7 @@
 -- The mended operations, at any width: by document 01's rules, on values first made canonical.
-use Rattle.std.specs.Prelude.{Bool, not, ◌&&◌, ◌||◌, ℕ, zero, suc, eqb, ℤ, pos, neg_ℤ, nat_abs, ◌+ℤ◌, ◌-ℤ◌, ◌*ℤ◌}
+use Rattle.std.specs.declared.cmp.Ordering.{Ordering}
+use Rattle.std.specs.declared.cmp.Ordering.TheVariants.{Equal, Greater, Less}
+use Rattle.std.specs.Prelude.{Bool, not, ◌&&◌, ◌||◌, ℕ, zero, suc, eqb, ℤ, pos, neg_ℤ, nat_abs, ◌+ℤ◌, ◌-ℤ◌, ◌*ℤ◌, None, Option, Some}
 use Rattle.std.specs.Int.Signed.{quot_z}
 use Rattle.std.specs.Int.{Width}
 use Rattle.whole.specs.Choice.{pick}
@@ -7,10 +9,6 @@ use Rattle.whole.specs.Test.{◌≤?◌, ◌<?◌, ◌≟◌, truth}
 use Rattle.whole.specs.Range.{fits?}
 use Rattle.whole.specs.Divides.{gcd, lcm, floor_rem}
 use Rattle.whole.specs.Exact.{exactly}
-use Rattle.whole.specs.declared.Exact.{Exact}
-use Rattle.whole.specs.declared.Exact.TheVariants as exact
-use Rattle.whole.specs.declared.Order.{Order}
-use Rattle.whole.specs.declared.Order.TheVariants.{Less, Equal, Greater, None}
 use Rattle.refusal.specs.Answer.{Answer, is}
 use Rattle.congruence.specs.declared.Congruence.{Congruence}
 use Rattle.congruence.specs.Set.{cong, top, bottom, bottom?, domain_at?, singles?, form}
@@ -20,19 +18,19 @@ use Rattle.congruence.specs.Answer.{within}
 -- ---- what the rules are made of
 
 -- the class of z modulo g in canonical form, or what is shown instead where one of the two doesn't fit
-unfoldable pub result_of : Exact → Exact → Congruence → Congruence
-result_of exact.DoesNotFit g over = over
-result_of (exact.Is z) exact.DoesNotFit over = over
-result_of (exact.Is z) (exact.Is g) over = cong (floor_rem z g) g
+unfoldable pub result_of : Option ℤ → Option ℤ → Congruence → Congruence
+result_of None g over = over
+result_of (Some z) None over = over
+result_of (Some z) (Some g) over = cong (floor_rem z g) g
 
 -- the class of z modulo m; top if m is no number of the width
 unfoldable pub class_of : Width → ℤ → ℕ → Congruence
-class_of w z m = result_of (exact.Is z) (exactly w (pos m)) top
+class_of w z m = result_of (Some z) (exactly w (pos m)) top
 
 -- a single number; bottom if it doesn't fit
-unfoldable pub only_of : Exact → Congruence
-only_of (exact.Is z) = cong z (pos 0)
-only_of exact.DoesNotFit = bottom
+unfoldable pub only_of : Option ℤ → Congruence
+only_of (Some z) = cong z (pos 0)
+only_of None = bottom
 
 -- the numbers that differ from z by a multiple of m, no others
 unfoldable pub exact_of : Width → ℤ → ℕ → Congruence
@@ -82,8 +80,8 @@ apart? a b = (bottom? a || bottom? b) || not (alike? (gcd (nat_abs a.modulus) (n
 unfoldable pub inside? : Congruence → Congruence → Bool
 inside? a b = bottom? a || (not (bottom? b) && (has? b a.constant && alike? (nat_abs b.modulus) a.modulus (pos 0)))
 
-unfoldable pub inclusion : Congruence → Congruence → Order
-inclusion a b = pick (inside? a b) (pick (inside? b a) Equal Less) (pick (inside? b a) Greater None)
+unfoldable pub inclusion : Congruence → Congruence → Option Ordering
+inclusion a b = pick (inside? a b) (pick (inside? b a) (Some Equal) (Some Less)) (pick (inside? b a) (Some Greater) None)
 
 -- ---- arithmetic
 
@@ -160,7 +158,7 @@ widen = join
 abbrev pub disjoint : Width → Congruence → Congruence → Answer Bool
 disjoint w = on_forms w apart?
 
-abbrev pub partial_cmp : Width → Congruence → Congruence → Answer Order
+abbrev pub partial_cmp : Width → Congruence → Congruence → Answer (Option Ordering)
 partial_cmp w = on_forms w inclusion
 
 abbrev pub equals : Width → Congruence → Congruence → Answer Congruence

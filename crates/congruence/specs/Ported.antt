@@ -1,17 +1,14 @@
 -- The Rust's operations on congruences, by its text, at 64 bits: its order of evaluation, a panic as a refusal.
 -- A participle names what an operation answers on values of the domain; the operation itself is refused by 1 outside of it.
-use Rattle.std.specs.Prelude.{Bool, true, false, not, ◌&&◌, ◌||◌, ℤ, pos, neg_ℤ, nat_abs, ◌+ℤ◌, ◌-ℤ◌, ◌*ℤ◌}
-use Rattle.std.proofs.Math.Option.{Option, none, some}
+use Rattle.std.specs.declared.cmp.Ordering.{Ordering}
+use Rattle.std.specs.declared.cmp.Ordering.TheVariants.{Equal, Greater, Less}
+use Rattle.std.specs.Prelude.{Bool, true, false, not, ◌&&◌, ◌||◌, ℤ, pos, neg_ℤ, nat_abs, ◌+ℤ◌, ◌-ℤ◌, ◌*ℤ◌, None, Option, Some}
 use Rattle.std.specs.Int.Signed.{quot_z, rem_z}
 use Rattle.std.specs.Int.{w64}
 use Rattle.whole.specs.Choice.{pick}
 use Rattle.whole.specs.Test.{◌<?◌, ◌≟◌}
 use Rattle.whole.specs.Divides as divides
 use Rattle.whole.specs.Exact.{exactly}
-use Rattle.whole.specs.declared.Exact.{Exact}
-use Rattle.whole.specs.declared.Exact.TheVariants as exact
-use Rattle.whole.specs.declared.Order.{Order}
-use Rattle.whole.specs.declared.Order.TheVariants.{Less, Equal, Greater, None}
 use Rattle.refusal.specs.Answer.{Answer, is, refused}
 use Rattle.congruence.specs.declared.Congruence.{Congruence}
 use Rattle.congruence.specs.Set.{cong, top, bottom, bottom?, domain?, singles?}
@@ -20,10 +17,10 @@ use Rattle.congruence.specs.Answer.{within}
 
 -- ---- numbers on the way: each is one that fits, or the call is refused by 2
 
-abbrev pub gcd_of : ℤ → ℤ → Exact
+abbrev pub gcd_of : ℤ → ℤ → Option ℤ
 gcd_of x y = exactly w64 (pos (divides.gcd (nat_abs x) (nat_abs y)))
 
-abbrev pub lcm_of : ℤ → ℤ → Exact
+abbrev pub lcm_of : ℤ → ℤ → Option ℤ
 lcm_of x y = exactly w64 (pos (divides.lcm (nat_abs x) (nat_abs y)))
 
 -- the Rust's `normalize`
@@ -31,19 +28,19 @@ unfoldable pub normalize : ℤ → ℤ → Congruence
 normalize c m = pick (m ≟ pos 0) (cong c m) (cong (rem_z c m) m)
 
 -- a value of these two, normalized
-unfoldable pub made : Exact → Exact → Answer Congruence
-made c exact.DoesNotFit = refused 2
-made exact.DoesNotFit (exact.Is m) = refused 2
-made (exact.Is c) (exact.Is m) = is (normalize c m)
+unfoldable pub made : Option ℤ → Option ℤ → Answer Congruence
+made c None = refused 2
+made None (Some m) = refused 2
+made (Some c) (Some m) = is (normalize c m)
 
 -- the Rust's `from`: it asserts that m = 0 or c < m
 unfoldable pub held : ℤ → ℤ → Answer Congruence
 held c m = pick ((m ≟ pos 0) || (c <? m)) (is (cong c m)) (refused 3)
 
-unfoldable pub asserted : Exact → Exact → Answer Congruence
-asserted exact.DoesNotFit m = refused 2
-asserted (exact.Is c) exact.DoesNotFit = refused 2
-asserted (exact.Is c) (exact.Is m) = held c m
+unfoldable pub asserted : Option ℤ → Option ℤ → Answer Congruence
+asserted None m = refused 2
+asserted (Some c) None = refused 2
+asserted (Some c) (Some m) = held c m
 
 unfoldable pub from : ℤ → ℤ → Answer Congruence
 from c m = pick (m <? pos 0) (refused 1) (held c m)
@@ -58,13 +55,13 @@ unfoldable pub same? : Congruence → Congruence → Bool
 same? a b = (a.constant ≟ b.constant) && (a.modulus ≟ b.modulus)
 
 unfoldable pub alone : Congruence → Answer (Option ℤ)
-alone a = pick (a.modulus ≟ pos 0) (is (some a.constant)) (is none)
+alone a = pick (a.modulus ≟ pos 0) (is (Some a.constant)) (is None)
 
 -- d % g != 0
-unfoldable pub indivisible : Exact → Exact → Answer Bool
-indivisible d exact.DoesNotFit = refused 2
-indivisible exact.DoesNotFit (exact.Is g) = refused 2
-indivisible (exact.Is d) (exact.Is g) = is (not (rem_z d g ≟ pos 0))
+unfoldable pub indivisible : Option ℤ → Option ℤ → Answer Bool
+indivisible d None = refused 2
+indivisible None (Some g) = refused 2
+indivisible (Some d) (Some g) = is (not (rem_z d g ≟ pos 0))
 
 unfoldable pub separated : Congruence → Congruence → Answer Bool
 separated a b =
@@ -99,10 +96,10 @@ disjoined a b =
 unfoldable pub inverted : Congruence → Congruence
 inverted a = pick (only? a (pos 1)) (cong (pos 0) (pos 0)) (pick (only? a (pos 0)) (cong (pos 1) (pos 0)) top)
 
-unfoldable pub compared : Congruence → Congruence → Order
+unfoldable pub compared : Congruence → Congruence → Option Ordering
 compared a b =
     pick (singles? a b)
-    (pick (a.constant <? b.constant) Less (pick (a.constant ≟ b.constant) Equal Greater))
+    (pick (a.constant <? b.constant) (Some Less) (pick (a.constant ≟ b.constant) (Some Equal) (Some Greater)))
     None
 
 -- ---- lattice
@@ -113,24 +110,24 @@ below? a b =
     not (b.modulus ≟ pos 0)
     && ((rem_z a.modulus b.modulus ≟ pos 0) && (rem_z a.constant b.modulus ≟ b.constant))
 
-unfoldable pub ordered : Congruence → Congruence → Order
+unfoldable pub ordered : Congruence → Congruence → Option Ordering
 ordered a b =
-    pick (same? a b) Equal
-    (pick (bottom? a) Less
-    (pick (bottom? b) Greater
-    (pick (below? a b) Less
-    (pick (below? b a) Greater None))))
+    pick (same? a b) (Some Equal)
+    (pick (bottom? a) (Some Less)
+    (pick (bottom? b) (Some Greater)
+    (pick (below? a b) (Some Less)
+    (pick (below? b a) (Some Greater) None))))
 
 unfoldable pub joined : Congruence → Congruence → Answer Congruence
 joined a b =
     pick (bottom? a) (is b)
     (pick (bottom? b) (is a)
-    (made (exact.Is a.constant) (gcd_then w64 (gcd_of a.modulus b.modulus) (abs_then w64 (exactly w64 (a.constant -ℤ b.constant))))))
+    (made (Some a.constant) (gcd_then w64 (gcd_of a.modulus b.modulus) (abs_then w64 (exactly w64 (a.constant -ℤ b.constant))))))
 
 -- the left constant modulo the lcm
-unfoldable pub reduced : ℤ → Exact → Answer Congruence
-reduced c exact.DoesNotFit = refused 2
-reduced c (exact.Is m) = is (normalize (rem_z c m) m)
+unfoldable pub reduced : ℤ → Option ℤ → Answer Congruence
+reduced c None = refused 2
+reduced c (Some m) = is (normalize (rem_z c m) m)
 
 -- of two classes
 unfoldable pub met_classes : Congruence → Congruence → Answer Congruence
@@ -151,7 +148,7 @@ narrowed new previous = pick (same? previous top) new previous
 -- ---- arithmetic
 
 unfoldable pub negated : Congruence → Answer Congruence
-negated a = pick (bottom? a) (is a) (asserted (exactly w64 (neg_ℤ a.constant)) (exact.Is a.modulus))
+negated a = pick (bottom? a) (is a) (asserted (exactly w64 (neg_ℤ a.constant)) (Some a.modulus))
 
 unfoldable pub added : Congruence → Congruence → Answer Congruence
 added a b =
@@ -203,10 +200,10 @@ logical_or a b = within (domain? a && domain? b) (is (disjoined a b))
 abbrev pub logical_not : Congruence → Answer Congruence
 logical_not a = within (domain? a) (is (inverted a))
 
-abbrev pub strict_cmp : Congruence → Congruence → Answer Order
+abbrev pub strict_cmp : Congruence → Congruence → Answer (Option Ordering)
 strict_cmp a b = within (domain? a && domain? b) (is (compared a b))
 
-abbrev pub partial_cmp : Congruence → Congruence → Answer Order
+abbrev pub partial_cmp : Congruence → Congruence → Answer (Option Ordering)
 partial_cmp a b = within (domain? a && domain? b) (is (ordered a b))
 
 abbrev pub join : Congruence → Congruence → Answer Congruence

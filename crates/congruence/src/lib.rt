@@ -3,56 +3,28 @@
 
 use number::{gcd_then, leaves};
 use refusal::Refusal;
-use whole::{Exact, Order, Size, floored_remainder};
+use whole::{Size, floored_remainder};
 
 pub mod mended;
 mod number;
 pub mod ported;
 mod residue;
 mod rules;
-pub mod sized;
 
-ghost use Rattle.std.specs.Prelude.{◌≡◌, ◌&&◌, ◌||◌};
-ghost use Rattle.congruence.specs.Set.{cong, bottom?, domain?, singles?, form};
+ghost use Rattle.refusal.specs.Answer.{is, told};
+ghost use Rattle.congruence.specs.Answer.{within};
+ghost use Rattle.std.specs.Prelude.{◌≡◌, ◌&&◌, ◌||◌, Ok};
+ghost use Rattle.congruence.specs.Set.{bottom?, domain?, singles?, form};
 ghost use Rattle.whole.specs.Sized.{width_of};
-ghost use Rattle.congruence.specs.Answer.{told};
 ghost use Rattle.congruence.specs.Numbers.{formula, divides?};
 ghost use Rattle.congruence.specs.Ported as spec;
 
 // (c, 0) stands for c alone, (c, m) for all x with x - c divisible by m, and (1, 1) for nothing.
-#[derive(Clone, Copy)]
+// Any pair is a value here: each operation promises a refusal by 1 outside the domain, so the domain is no invariant.
+#[derive(Clone, Copy, PartialEq, Eq, Debug)]
 pub struct Congruence {
     pub constant: i64,
     pub modulus: i64,
-}
-
-// A congruence, or the refusal.
-#[derive(Clone, Copy)]
-pub enum CongruenceAnswer {
-    Is(Congruence),
-    Refused(Refusal),
-}
-
-// A truth, or the refusal.
-#[derive(Clone, Copy)]
-pub enum TruthAnswer {
-    Is(bool),
-    Refused(Refusal),
-}
-
-// How two congruences compare, or the refusal.
-#[derive(Clone, Copy)]
-pub enum OrderAnswer {
-    Is(Order),
-    Refused(Refusal),
-}
-
-// The single number that a congruence stands for, that it isn't one, or the refusal.
-#[derive(Clone, Copy)]
-pub enum SingleAnswer {
-    Is(i64),
-    None,
-    Refused(Refusal),
 }
 
 impl Congruence {
@@ -68,12 +40,23 @@ impl Congruence {
         modulus: 1,
     };
 
+    // What the comparisons and the logic show: 0 is false and 1 is true.
+    pub const FALSE: Congruence = Congruence {
+        constant: 0,
+        modulus: 0,
+    };
+
+    pub const TRUE: Congruence = Congruence {
+        constant: 1,
+        modulus: 0,
+    };
+
     // (c, m): m < 0 is refused by 1, m > 0 with c >= m by 3.
-    pub fn from(c: i64, m: i64) -> CongruenceAnswer
+    pub fn from(c: i64, m: i64) -> Result<Congruence, Refusal>
         ensures { told result ≡ spec.from c m }
     {
         if m < 0 {
-            return CongruenceAnswer::Refused(Refusal::NotInDomain);
+            return Err(Refusal::NotInDomain);
         }
         held(c, m)
     }
@@ -81,59 +64,39 @@ impl Congruence {
     pub fn is_bottom(self) -> bool
         ensures { result ≡ bottom? self }
     {
-        if self.constant == 1 {
-            self.modulus == 1
-        } else {
-            false
-        }
+        self == Congruence::BOTTOM
     }
 
     // m = 0, or m > 0 and c < m, or the bottom.
     pub fn in_domain(self) -> bool
         ensures { result ≡ domain? self }
     {
-        if self.modulus == 0 {
-            true
-        } else if self.modulus > 0 {
-            if self.constant < self.modulus {
-                true
-            } else {
-                self.is_bottom()
-            }
-        } else {
-            self.is_bottom()
-        }
+        self.modulus == 0 || (self.modulus > 0 && self.constant < self.modulus) || self.is_bottom()
     }
 }
 
-// What the comparisons and the logic show: 0 is false and 1 is true.
-const FALSE: Congruence = Congruence {
-    constant: 0,
-    modulus: 0,
-};
-
-const TRUE: Congruence = Congruence {
-    constant: 1,
-    modulus: 0,
-};
-
 // The assertion of the Rust's `from`: m = 0 or c < m.
-fn held(c: i64, m: i64) -> CongruenceAnswer
+fn held(c: i64, m: i64) -> Result<Congruence, Refusal>
     ensures { told result ≡ spec.held c m }
 {
-    if m == 0 {
-        return CongruenceAnswer::Is(Congruence {
-            constant: c,
-            modulus: m,
-        });
-    }
-    if c < m {
-        CongruenceAnswer::Is(Congruence {
+    if m == 0 || c < m {
+        Ok(Congruence {
             constant: c,
             modulus: m,
         })
     } else {
-        CongruenceAnswer::Refused(Refusal::WouldAssert)
+        Err(Refusal::WouldAssert)
+    }
+}
+
+// Refused by 1 where the arguments aren't inside the domain.
+fn need(inside: bool) -> Result<(), Refusal>
+    ensures { told result ≡ within inside (is tt) }
+{
+    if inside {
+        Ok(())
+    } else {
+        Err(Refusal::NotInDomain)
     }
 }
 
@@ -141,17 +104,18 @@ fn held(c: i64, m: i64) -> CongruenceAnswer
 fn both_in_domain(a: Congruence, b: Congruence) -> bool
     ensures { result ≡ (domain? a && domain? b) }
 {
-    if a.in_domain() { b.in_domain() } else { false }
+    a.in_domain() && b.in_domain()
 }
 
 // One of the two is the bottom.
 fn either_bottom(a: Congruence, b: Congruence) -> bool
     ensures { result ≡ (bottom? a || bottom? b) }
 {
-    if a.is_bottom() { true } else { b.is_bottom() }
+    a.is_bottom() || b.is_bottom()
 }
 
 // The canonical value that stands for the same numbers.
+#[tactic(auto, unfolding(crate::specs::Set::form))]
 fn form(a: Congruence) -> Congruence
     ensures { result ≡ form a }
 {
@@ -168,31 +132,25 @@ fn form(a: Congruence) -> Congruence
 fn both_single(a: Congruence, b: Congruence) -> bool
     ensures { result ≡ singles? a b }
 {
-    if a.modulus == 0 {
-        b.modulus == 0
-    } else {
-        false
-    }
+    a.modulus == 0 && b.modulus == 0
 }
 
-// The modulus of a product of (c, m) and (e, n).
-fn formula(size: Size, c: i64, m: i64, e: i64, n: i64) -> Exact
-    ensures { result ≡ formula (width_of size) (cong c m) (cong e n) }
+// The modulus of the product.
+#[tactic(auto, unfolding(crate::specs::Numbers::formula))]
+fn formula(size: Size, a: Congruence, b: Congruence) -> Option<i64>
+    ensures { result ≡ formula (width_of size) a b }
 {
-    gcd_then(
+    let left = gcd_then(
         size,
-        gcd_then(size, size.mul(m, n), size.mul(m, e)),
-        size.mul(n, c),
-    )
+        size.mul(a.modulus, b.modulus),
+        size.mul(a.modulus, b.constant),
+    );
+    gcd_then(size, left, size.mul(b.modulus, a.constant))
 }
 
 // d divides both numbers of a.
 fn divisible(a: Congruence, d: i64) -> bool
     ensures { result ≡ divides? d a }
 {
-    if leaves(a.constant, d, 0) {
-        leaves(a.modulus, d, 0)
-    } else {
-        false
-    }
+    leaves(a.constant, d, 0) && leaves(a.modulus, d, 0)
 }

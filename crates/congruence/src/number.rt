@@ -6,7 +6,7 @@ ghost use Rattle.whole.specs.Test.{◌≟◌};
 ghost use Rattle.whole.specs.Sized.{width_of};
 ghost use Rattle.congruence.specs.Numbers.{gcd_then, abs_then, alike?};
 
-use whole::{Exact, Size, gcd_u64, magnitude, remainder};
+use whole::{Size, gcd_u64, magnitude, remainder};
 
 // x % m == c.
 pub fn leaves(x: i64, m: i64, c: i64) -> bool
@@ -15,50 +15,23 @@ pub fn leaves(x: i64, m: i64, c: i64) -> bool
     remainder(x, m) == c
 }
 
-pub fn gcd_then(size: Size, x: Exact, y: Exact) -> Exact
+#[tactic(auto, unfolding(crate::specs::Numbers::gcd_then))]
+pub fn gcd_then(size: Size, x: Option<i64>, y: Option<i64>) -> Option<i64>
     ensures { result ≡ gcd_then (width_of size) x y }
 {
-    match x {
-        Exact::DoesNotFit => Exact::DoesNotFit,
-        Exact::Is(a) => match y {
-            Exact::DoesNotFit => Exact::DoesNotFit,
-            Exact::Is(b) => size.natural(gcd_u64(magnitude(a), magnitude(b))),
-        },
-    }
+    size.natural(gcd_u64(magnitude(x?), magnitude(y?)))
 }
 
-pub fn abs_then(size: Size, x: Exact) -> Exact
+#[tactic(auto, unfolding(crate::specs::Numbers::abs_then))]
+pub fn abs_then(size: Size, x: Option<i64>) -> Option<i64>
     ensures { result ≡ abs_then (width_of size) x }
 {
-    match x {
-        Exact::DoesNotFit => Exact::DoesNotFit,
-        Exact::Is(a) => size.natural(magnitude(a)),
-    }
-}
-
-fn apart(a: u64, b: u64) -> u64
-    ensures { result ≡ (a - b) + (b - a) }
-{
-    if a < b { b - a } else { a - b }
-}
-
-// |x - y|, below 2^64.
-pub fn distance(x: i64, y: i64) -> u64
-    ensures { result ≡ nat_abs (x -ℤ y) }
-{
-    let a = magnitude(x);
-    let b = magnitude(y);
-    if x < 0 {
-        if y < 0 { apart(a, b) } else { a + b }
-    } else {
-        if y < 0 { a + b } else { apart(a, b) }
-    }
+    size.natural(magnitude(x?))
 }
 
 // Whether x and y differ by a multiple of m; for m = 0, whether they are equal.
 pub fn alike(m: u64, x: i64, y: i64) -> bool
     ensures { result ≡ alike? m x y }
 {
-    let d = distance(x, y);
-    if m == 0 { d == 0 } else { d % m == 0 }
+    x.abs_diff(y).is_multiple_of(m)
 }

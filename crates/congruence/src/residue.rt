@@ -2,12 +2,11 @@
 ghost use Rattle.std.specs.Prelude.{◌≡◌, ◌+◌, ◌-◌, ◌*◌, ◌%◌, ◌<◌, pos, ◌*ℤ◌};
 ghost use Rattle.whole.specs.Divides.{gcd, lcm, Cong};
 ghost use Rattle.whole.specs.Sized.{width_of};
-ghost use Rattle.congruence.specs.Set.{cong};
 ghost use Rattle.congruence.specs.Mended as spec;
 
 use crate::Congruence;
 use crate::number::alike;
-use whole::{Exact, Size, floored_remainder, gcd_u64, magnitude};
+use whole::{Size, floored_remainder, gcd_u64, magnitude};
 
 // a - b modulo n.
 fn sub_mod(a: u64, b: u64, n: u64) -> u64
@@ -25,6 +24,7 @@ fn mul_mod(a: u64, b: u64, n: u64) -> u64
     let mut sum: u64 = 0;
     let mut x = b;
     let mut k = a;
+    // No for: k is halved, and no index is counted.
     while k != 0 {
         if k % 2 == 1 {
             sum = (sum + x) % n;
@@ -44,6 +44,7 @@ fn bezout(a: u64, n: u64) -> u64
     let mut y = n;
     let mut s = 1 % n;
     let mut t: u64 = 0;
+    // No for: Euclid's steps count no index.
     while y != 0 {
         let q = x / y;
         let z = x % y;
@@ -57,7 +58,7 @@ fn bezout(a: u64, n: u64) -> u64
     s
 }
 
-// The number below the lcm that leaves c modulo m and e modulo n.
+// The number below the lcm that leaves c modulo m and e modulo n: natural numbers, which no Congruence holds.
 fn crt(c: u64, m: u64, e: u64, n: u64) -> u64
     requires { (c < m) × (e < n) × (n < 9223372036854775808) × (lcm m n < 9223372036854775808) × Cong (gcd m n) (pos c) (pos e) }
     ensures { (result < lcm m n) × Cong m (pos result) (pos c) × Cong n (pos result) (pos e) }
@@ -94,28 +95,23 @@ fn shared(c: i64, p: u64, e: i64, q: u64) -> u64
     crt(x, p, y, q)
 }
 
-// The common numbers of the classes (c, m) and (e, n); (c, m) itself if they share one and the lcm doesn't fit.
-pub fn overlap(size: Size, c: i64, m: i64, e: i64, n: i64) -> Congruence
-    ensures { result ≡ spec.overlap (width_of size) (cong c m) (cong e n) }
+// The common numbers of two classes; the left class itself if they share one and the lcm doesn't fit.
+pub fn overlap(size: Size, a: Congruence, b: Congruence) -> Congruence
+    ensures { result ≡ spec.overlap (width_of size) a b }
 {
-    let p = magnitude(m);
-    let q = magnitude(n);
-    if !alike(gcd_u64(p, q), c, e) {
+    let p = magnitude(a.modulus);
+    let q = magnitude(b.modulus);
+    if !alike(gcd_u64(p, q), a.constant, b.constant) {
         return Congruence::BOTTOM;
     }
-    match size.lcm(p, q) {
-        Exact::DoesNotFit => Congruence {
-            constant: c,
-            modulus: m,
-        },
-        Exact::Is(l) => {
-            if l == 0 {
-                return Congruence::BOTTOM;
-            }
-            Congruence {
-                constant: signed(shared(c, p, e, q)),
-                modulus: l,
-            }
-        }
+    let Some(l) = size.lcm(p, q) else {
+        return a;
+    };
+    if l == 0 {
+        return Congruence::BOTTOM;
+    }
+    Congruence {
+        constant: signed(shared(a.constant, p, b.constant, q)),
+        modulus: l,
     }
 }

@@ -1,14 +1,17 @@
 // The mended rules on canonical values, at a size of numbers: lattice, arithmetic, comparisons. Their answers are canonical.
 ghost use Rattle.std.specs.Prelude.{◌≡◌, pos, nat_abs, ◌+ℤ◌, ◌-ℤ◌, ◌<ℤ◌};
-ghost use Rattle.whole.specs.Test.{◌≤?◌, ◌<?◌};
+ghost use Rattle.whole.specs.Choice.{pick};
+ghost use Rattle.whole.specs.Test.{◌≤?◌, ◌<?◌, truth};
+ghost use Rattle.congruence.specs.Set.{cong, top, singles?};
 ghost use Rattle.whole.specs.Divides.{gcd, floor_rem};
 ghost use Rattle.whole.specs.Sized.{width_of};
 ghost use Rattle.congruence.specs.Mended as spec;
 
-use crate::number::{abs_then, alike, distance};
+use crate::number::{abs_then, alike};
 use crate::residue::overlap;
-use crate::{Congruence, FALSE, TRUE, both_single, divisible, either_bottom, formula};
-use whole::{Exact, Order, Size, floored_remainder, gcd_u64, magnitude};
+use crate::{Congruence, both_single, divisible, either_bottom, formula};
+use std::cmp::Ordering;
+use whole::{Size, floored_remainder, gcd_u64, magnitude};
 
 // ---- what the rules are made of
 
@@ -27,36 +30,36 @@ fn has(a: Congruence, z: i64) -> bool
 }
 
 // The class of z modulo g, or what is shown instead where one of the two doesn't fit.
-fn result_of(z: Exact, g: Exact, over: Congruence) -> Congruence
+#[tactic(auto, unfolding(crate::specs::Mended::result_of))]
+fn result_of(z: Option<i64>, g: Option<i64>, over: Congruence) -> Congruence
     ensures { result ≡ spec.result_of z g over }
 {
-    match z {
-        Exact::DoesNotFit => over,
-        Exact::Is(k) => match g {
-            Exact::DoesNotFit => over,
-            Exact::Is(n) => Congruence {
-                constant: floored_remainder(k, n),
-                modulus: n,
-            },
-        },
+    let (Some(k), Some(n)) = (z, g) else {
+        return over;
+    };
+    Congruence {
+        constant: floored_remainder(k, n),
+        modulus: n,
     }
 }
 
+#[tactic(auto, unfolding(crate::specs::Mended::class_of))]
 fn class_of(size: Size, z: i64, m: u64) -> Congruence
     ensures { result ≡ spec.class_of (width_of size) z m }
 {
-    result_of(Exact::Is(z), size.natural(m), Congruence::TOP)
+    result_of(Some(z), size.natural(m), Congruence::TOP)
 }
 
-fn only_of(z: Exact) -> Congruence
+#[tactic(auto, unfolding(crate::specs::Mended::only_of))]
+fn only_of(z: Option<i64>) -> Congruence
     ensures { result ≡ spec.only_of z }
 {
-    match z {
-        Exact::Is(k) => Congruence {
-            constant: k,
-            modulus: 0,
-        },
-        Exact::DoesNotFit => Congruence::BOTTOM,
+    let Some(k) = z else {
+        return Congruence::BOTTOM;
+    };
+    Congruence {
+        constant: k,
+        modulus: 0,
     }
 }
 
@@ -87,28 +90,28 @@ fn sum_class(size: Size, x: i64, y: i64, m: u64) -> Congruence
     if m == 0 {
         return only_of(size.add(x, y));
     }
-    match size.natural(m) {
-        Exact::DoesNotFit => Congruence::TOP,
-        Exact::Is(k) => Congruence {
-            constant: sum_modulo(x, y, k),
-            modulus: k,
-        },
+    let Some(k) = size.natural(m) else {
+        return Congruence::TOP;
+    };
+    Congruence {
+        constant: sum_modulo(x, y, k),
+        modulus: k,
     }
 }
 
-// The numbers x - y modulo m.
+// The numbers x - y modulo m. Not one with sum_class: the two wrap by different tests, and a closure for them is no plainer.
 fn difference_class(size: Size, x: i64, y: i64, m: u64) -> Congruence
     ensures { result ≡ spec.exact_of (width_of size) (x -ℤ y) m }
 {
     if m == 0 {
         return only_of(size.sub(x, y));
     }
-    match size.natural(m) {
-        Exact::DoesNotFit => Congruence::TOP,
-        Exact::Is(k) => Congruence {
-            constant: difference_modulo(x, y, k),
-            modulus: k,
-        },
+    let Some(k) = size.natural(m) else {
+        return Congruence::TOP;
+    };
+    Congruence {
+        constant: difference_modulo(x, y, k),
+        modulus: k,
     }
 }
 
@@ -117,10 +120,7 @@ fn difference_class(size: Size, x: i64, y: i64, m: u64) -> Congruence
 pub fn apart(a: Congruence, b: Congruence) -> bool
     ensures { result ≡ spec.apart? a b }
 {
-    if either_bottom(a, b) {
-        return true;
-    }
-    !alike(moduli_gcd(a, b), a.constant, b.constant)
+    either_bottom(a, b) || !alike(moduli_gcd(a, b), a.constant, b.constant)
 }
 
 fn inside(a: Congruence, b: Congruence) -> bool
@@ -132,31 +132,22 @@ fn inside(a: Congruence, b: Congruence) -> bool
     if b.is_bottom() {
         return false;
     }
-    if has(b, a.constant) {
-        alike(magnitude(b.modulus), a.modulus, 0)
-    } else {
-        false
-    }
+    has(b, a.constant) && alike(magnitude(b.modulus), a.modulus, 0)
 }
 
-pub fn inclusion(a: Congruence, b: Congruence) -> Order
+#[tactic(auto, unfolding(crate::specs::Mended::inclusion))]
+pub fn inclusion(a: Congruence, b: Congruence) -> Option<Ordering>
     ensures { result ≡ spec.inclusion a b }
 {
-    if inside(a, b) {
-        if inside(b, a) {
-            Order::Equal
-        } else {
-            Order::Less
-        }
-    } else {
-        if inside(b, a) {
-            Order::Greater
-        } else {
-            Order::None
-        }
+    match (inside(a, b), inside(b, a)) {
+        (true, true) => Some(Ordering::Equal),
+        (true, false) => Some(Ordering::Less),
+        (false, true) => Some(Ordering::Greater),
+        (false, false) => None,
     }
 }
 
+#[tactic(auto, unfolding(crate::specs::Mended::joint))]
 pub fn joint(size: Size, a: Congruence, b: Congruence) -> Congruence
     ensures { result ≡ spec.joint (width_of size) a b }
 {
@@ -166,7 +157,7 @@ pub fn joint(size: Size, a: Congruence, b: Congruence) -> Congruence
     if b.is_bottom() {
         return a;
     }
-    let d = distance(a.constant, b.constant);
+    let d = a.constant.abs_diff(b.constant);
     class_of(size, a.constant, gcd_u64(moduli_gcd(a, b), d))
 }
 
@@ -190,11 +181,12 @@ pub fn common(size: Size, a: Congruence, b: Congruence) -> Congruence
             Congruence::BOTTOM
         };
     }
-    overlap(size, a.constant, a.modulus, b.constant, b.modulus)
+    overlap(size, a, b)
 }
 
 // ---- arithmetic
 
+#[tactic(auto, unfolding(crate::specs::Mended::negative))]
 pub fn negative(size: Size, a: Congruence) -> Congruence
     ensures { result ≡ spec.negative (width_of size) a }
 {
@@ -204,6 +196,8 @@ pub fn negative(size: Size, a: Congruence) -> Congruence
     difference_class(size, 0, a.constant, magnitude(a.modulus))
 }
 
+// Not one with difference: they share no more than the gcd and the bottom.
+#[tactic(auto, unfolding(crate::specs::Mended::sum, crate::specs::Mended::beside))]
 pub fn sum(size: Size, a: Congruence, b: Congruence) -> Congruence
     ensures { result ≡ spec.sum (width_of size) a b }
 {
@@ -213,6 +207,7 @@ pub fn sum(size: Size, a: Congruence, b: Congruence) -> Congruence
     sum_class(size, a.constant, b.constant, moduli_gcd(a, b))
 }
 
+#[tactic(auto, unfolding(crate::specs::Mended::difference, crate::specs::Mended::beside))]
 pub fn difference(size: Size, a: Congruence, b: Congruence) -> Congruence
     ensures { result ≡ spec.difference (width_of size) a b }
 {
@@ -223,6 +218,7 @@ pub fn difference(size: Size, a: Congruence, b: Congruence) -> Congruence
 }
 
 // What is shown where a number of the product's formula doesn't fit.
+#[tactic(auto, unfolding(crate::specs::Mended::over))]
 fn over(a: Congruence, b: Congruence) -> Congruence
     ensures { result ≡ spec.over a b }
 {
@@ -233,16 +229,18 @@ fn over(a: Congruence, b: Congruence) -> Congruence
     }
 }
 
+#[tactic(auto, unfolding(crate::specs::Mended::product, crate::specs::Mended::beside))]
 pub fn product(size: Size, a: Congruence, b: Congruence) -> Congruence
     ensures { result ≡ spec.product (width_of size) a b }
 {
     if either_bottom(a, b) {
         return Congruence::BOTTOM;
     }
-    let g = formula(size, a.constant, a.modulus, b.constant, b.modulus);
+    let g = formula(size, a, b);
     result_of(size.mul(a.constant, b.constant), g, over(a, b))
 }
 
+#[tactic(auto, unfolding(crate::specs::Mended::by_number))]
 fn by_number(size: Size, a: Congruence, d: i64) -> Congruence
     ensures { result ≡ spec.by_number (width_of size) a d }
 {
@@ -258,56 +256,58 @@ fn by_number(size: Size, a: Congruence, d: i64) -> Congruence
     }
 }
 
+#[tactic(auto, unfolding(crate::specs::Mended::quotient, crate::specs::Mended::beside))]
 pub fn quotient_class(size: Size, a: Congruence, b: Congruence) -> Congruence
     ensures { result ≡ spec.quotient (width_of size) a b }
 {
     if either_bottom(a, b) {
         return Congruence::BOTTOM;
     }
-    if b.modulus == 0 {
-        if b.constant == 0 {
-            Congruence::BOTTOM
-        } else {
-            by_number(size, a, b.constant)
-        }
-    } else {
+    if b.modulus != 0 {
         Congruence::TOP
+    } else if b.constant == 0 {
+        Congruence::BOTTOM
+    } else {
+        by_number(size, a, b.constant)
     }
 }
 
 // ---- comparisons
 
+#[tactic(auto, unfolding(crate::specs::Mended::equality))]
 pub fn equality(a: Congruence, b: Congruence) -> Congruence
     ensures { result ≡ spec.equality a b }
 {
     if apart(a, b) {
-        return FALSE;
-    }
-    if both_single(a, b) {
-        TRUE
+        Congruence::FALSE
+    } else if both_single(a, b) {
+        Congruence::TRUE
     } else {
         Congruence::TOP
+    }
+}
+
+// What a comparison of two single numbers shows, by whether it holds of them; all else is open.
+fn compared(a: Congruence, b: Congruence, holds: bool) -> Congruence
+    ensures { result ≡ pick (singles? a b) (cong (truth holds) (pos 0)) top }
+{
+    if !both_single(a, b) {
+        Congruence::TOP
+    } else if holds {
+        Congruence::TRUE
+    } else {
+        Congruence::FALSE
     }
 }
 
 pub fn below(a: Congruence, b: Congruence) -> Congruence
     ensures { result ≡ spec.comparison ◌<?◌ a b }
 {
-    if !both_single(a, b) {
-        return Congruence::TOP;
-    }
-    if a.constant < b.constant { TRUE } else { FALSE }
+    compared(a, b, a.constant < b.constant)
 }
 
 pub fn at_most(a: Congruence, b: Congruence) -> Congruence
     ensures { result ≡ spec.comparison ◌≤?◌ a b }
 {
-    if !both_single(a, b) {
-        return Congruence::TOP;
-    }
-    if a.constant <= b.constant {
-        TRUE
-    } else {
-        FALSE
-    }
+    compared(a, b, a.constant <= b.constant)
 }

@@ -7,11 +7,12 @@ use lib.IntN.{ℤ}
 use lib.ListN.{length}
 use mir.Syntax.{Width}
 use Rattle.sheet.specs.Got.{got, refused}
-use Rattle.sheet.specs.Step.{Step}
+use Rattle.sheet.specs.declared.step.Step.{Step}
 use Rattle.sheet.specs.Sheet.{parse}
 use Rattle.step.specs.Stopping.{stopping}
 use Rattle.desk.specs.Check.{check_sheet}
-use Rattle.desk.specs.Answer.{nothing, refused_by, at_byte, result_of, checked_on, checking}
+use Rattle.refusal.specs.Answer.{at_byte, refused_by}
+use Rattle.desk.specs.Answer.{nothing, result_of, checked_on, checking}
 
 module _ (w : Width) (steps : List Step) (room : List ℤ) where
   pub checked-short : length room < length steps * 5 → checked_on w steps room ≡ nothing (refused_by 16)

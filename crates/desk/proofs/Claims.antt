@@ -13,11 +13,15 @@ use lib.Seq.{sets, sets-eq, take_at}
 use mir.Syntax.{Width, w64}
 use Rattle.refusal.specs.declared.Refusal.{Refusal}
 use Rattle.refusal.specs.Number.{number_of}
-use Rattle.refusal.proofs.Claims.{with_number, number-back, number-tells}
+use Rattle.std.specs.Prelude.{Ok, Err}
+use Rattle.refusal.specs.declared.Fault.TheVariants.{AtStep}
+use Rattle.refusal.specs.Answer.{Told, done, at_step, at_byte, refused_by}
+use Rattle.refusal.specs.Count.{Counted, count_told}
+use Rattle.refusal.proofs.Claims.{number-tells, count-tells}
 use Rattle.whole.specs.Choice.{pick}
 use Rattle.sheet.specs.Lent.{Bytes}
 use Rattle.sheet.specs.Got.{Got, got, refused}
-use Rattle.sheet.specs.Step.{Step}
+use Rattle.sheet.specs.declared.step.Step.{Step}
 use Rattle.sheet.specs.Sheet.{parse}
 use Rattle.sheet.proofs.Claims.{read-valid}
 use Rattle.step.specs.declared.show.Shown.{Shown}
@@ -26,19 +30,14 @@ use Rattle.step.specs.Run.{run_op}
 use Rattle.step.specs.Stopping.{stopping}
 use Rattle.step.proofs.Claims.{lawful}
 use Rattle.panel.specs.Run.{actions_of, run_sheet}
-use Rattle.panel.specs.Answer.{ended_with, run_told, RanAt, Ran}
-use Rattle.panel.specs.declared.RunAnswer.{RunAnswer}
-use Rattle.panel.specs.declared.RunAnswer.TheVariants.{Ended}
-use Rattle.panel.proofs.Claims.{run-told}
+use Rattle.panel.specs.Answer.{RanAt, Ran}
 use Rattle.panel.proofs.Told.{actions-length}
 use Rattle.panel.proofs.Answers.{runs-read, ran-suited}
 use Rattle.desk.specs.Check.{Check, passed, refused_at, shown_by, check_from, check_sheet}
 use Rattle.desk.specs.Five.{flat, shown_in}
 use Rattle.desk.specs.Promise.{AllValid, AllGood, Suits, Each, none, next, Ends, StopsAfter}
-use Rattle.desk.specs.Answer.{Told, passed_with, at_step, at_byte, refused_by, check_told, Result, nothing, result_of, checked_on, CheckedAt, Checked}
+use Rattle.desk.specs.Answer.{Left, nothing, result_of, checked_on, CheckedAt, Checked}
 use Rattle.desk.specs.Kept.{InRanges, Reaches, StopsThereAt, StopsThere, Within}
-use Rattle.desk.specs.declared.CheckAnswer.{CheckAnswer}
-use Rattle.desk.specs.declared.CheckAnswer.TheVariants.{Passed, RefusedAtStep, RefusedAt, Refused}
 use Rattle.desk.proofs.ClaimsDemand as Demand
 use Rattle.desk.proofs.Taken.{all_valid, suits-tells}
 use Rattle.desk.proofs.Fives.{length-flat, found}
@@ -76,22 +75,9 @@ module _ (s : List ℕ) (bytes : Bytes s) (steps : List Step) (end : ℕ) (read 
 
 -- ---- what is answered is determined
 
--- the answer of what is told
-abbrev check_back : Told → CheckAnswer
-check_back (passed_with n) = Passed n
-check_back (at_step k r) = RefusedAtStep (with_number r) k
-check_back (at_byte r p) = RefusedAt (with_number r) p
-check_back (refused_by r) = Refused (with_number r)
-
-check-back : (r : CheckAnswer) → check_back (check_told r) ≡ r
-check-back (Passed n) = refl
-check-back (RefusedAtStep r k) = ap (λ q. RefusedAtStep q k) (number-back r)
-check-back (RefusedAt r p) = ap (λ q. RefusedAt q p) (number-back r)
-check-back (Refused r) = ap Refused (number-back r)
-
 -- any two answers that the promise of `check` admits are equal, and the rooms with them
-pub check-determined : (bytes : List ℕ) (room after after' : List ℤ) (r r' : CheckAnswer) → Checked bytes room after r → Checked bytes room after' r' → (r ≡ r') × (after ≡ after')
-check-determined bytes room after after' r r' h h' = (sym (check-back r) ∙ ap check_back (h.0 ∙ sym h'.0) ∙ check-back r', h.1 ∙ sym h'.1)
+pub check-determined : (bytes : List ℕ) (room after after' : List ℤ) (r r' : Counted) → Checked bytes room after r → Checked bytes room after' r' → (r ≡ r') × (after ≡ after')
+check-determined bytes room after after' r r' h h' = (count-tells r r' (h.0 ∙ sym h'.0), h.1 ∙ sym h'.1)
 
 -- ---- demand 3 for the answers of `check` and `run`
 
@@ -112,7 +98,7 @@ module _ (w : Width) (steps : List Step) (room after : List ℤ) (t : Told) (oth
   unfolding checked_on
   walked h = by-room (leb (length steps * 5) (length room)) refl h
     where
-      Chosen : Bool → Result
+      Chosen : Bool → Left
       Chosen b = pick b (result_of (check_sheet (stopping w) steps)) (nothing (refused_by 16))
 
       by-room : (b : Bool) → leb (length steps * 5) (length room) ≡ b → (t ≡ (Chosen b).told) × (after ≡ sets room 0 (Chosen b).numbers) → Walked w steps room after t
@@ -121,12 +107,12 @@ module _ (w : Width) (steps : List Step) (room after : List ℤ) (t : Told) (oth
 
 module _ (w : Width) (bytes : List ℕ) (within : Within w bytes) where
   -- if `check_at` passes a sheet, then for all inputs in their ranges `run_at` ends, and each number in its room lies in what stands in the check's room
-  pub passed-at : (room shown : List ℤ) (n : ℕ) → CheckedAt w bytes room shown (Passed n) → (ins : List ℤ) → InRanges bytes ins → (room' numbers : List ℤ) (r : RunAnswer) → n ≤ length room' → RanAt w bytes ins room' numbers r → Reaches n shown numbers r
+  pub passed-at : (room shown : List ℤ) (n : ℕ) → CheckedAt w bytes room shown (Ok n) → (ins : List ℤ) → InRanges bytes ins → (room' numbers : List ℤ) (r : Counted) → n ≤ length room' → RanAt w bytes ins room' numbers r → Reaches n shown numbers r
   passed-at room shown n h ins i room' numbers r l g =
-      let k = walked w i.steps room shown (passed_with n) (λ e. let z : ◌≡◌ {A = ℕ} 0 1 = cc in omega arith) (rw (checks-read w bytes room i.steps i.end i.read) at h) in
+      let k = walked w i.steps room shown (done n) (λ e. let z : ◌≡◌ {A = ℕ} 0 1 = cc in omega arith) (rw (checks-read w bytes room i.steps i.end i.read) at h) in
       by-check k.check k.is k.tells k.stands k.enough
     where
-      by-check : (c : Check Shown) → check_sheet (stopping w) i.steps ≡ c → passed_with n ≡ (result_of c).told → shown ≡ sets room 0 (result_of c).numbers → length i.steps * 5 ≤ length room → Reaches n shown numbers r
+      by-check : (c : Check Shown) → check_sheet (stopping w) i.steps ≡ c → done n ≡ (result_of c).told → shown ≡ sets room 0 (result_of c).numbers → length i.steps * 5 ≤ length room → Reaches n shown numbers r
       by-check (refused_at vs q) c t s e = let z : ◌≡◌ {A = ℕ} 0 1 = cc in absurd (omega arith)
       by-check (passed vs) c t s e =
           let d = passed-runs-at w i.steps (within i.steps i.end i.read) vs c ins i.suits in
@@ -134,9 +120,9 @@ module _ (w : Width) (bytes : List ℕ) (within : Within w bytes) where
           let y : length vs ≡ length i.steps = Demand.shows-each (stopping w) (actions_of i.steps) vs c ∙ actions-length i.steps in
           let x : length d.numbers ≡ length vs = each-as-many w d.each in
           let f : length (flat vs) ≤ length room = omega (arith, length-flat vs) in
-          let a : (run_told r ≡ ended_with (length d.numbers)) × (numbers ≡ sets room' 0 d.numbers) = rw (runs-read (run_op w) bytes ins room' i.steps i.end i.read, ran-suited (run_op w) i.steps ins room' (omega arith) (suits-tells (actions_of i.steps) ins i.suits), d.ends) at g in
+          let a : (count_told r ≡ done (length d.numbers)) × (numbers ≡ sets room' 0 d.numbers) = rw (runs-read (run_op w) bytes ins room' i.steps i.end i.read, ran-suited (run_op w) i.steps ins room' (omega arith) (suits-tells (actions_of i.steps) ins i.suits), d.ends) at g in
           record {
-            ends = run-told r (Ended n) (a.0 ∙ ap ended_with (x ∙ sym m));
+            ends = count-tells r (Ok n) (a.0 ∙ ap done (x ∙ sym m));
             lies = λ k j.
                 let p : shown_in shown k ≡ get_or vs k zero_shown = ap (λ t. shown_in t k) (s ∙ sets-eq (flat vs) room 0 (omega arith)) ∙ found vs _ k (omega arith) in
                 let q : get_or numbers k (pos 0) ≡ get_or d.numbers k (pos 0) = ap (λ t. get_or t k (pos 0)) (a.1 ∙ sets-eq d.numbers room' 0 (omega arith)) ∙ get_or-append d.numbers _ (pos 0) k (omega arith) in
@@ -144,10 +130,10 @@ module _ (w : Width) (bytes : List ℕ) (within : Within w bytes) where
           }
 
   -- if `check_at` refuses a sheet at a step, the steps before it pass, with what stands in its room, and numbers of the operands' ranges stop that step
-  pub refused-at : (room shown : List ℤ) (r : Refusal) (k : ℕ) → CheckedAt w bytes room shown (RefusedAtStep r k) → StopsThereAt w bytes shown r k
+  pub refused-at : (room shown : List ℤ) (r : Refusal) (k : ℕ) → CheckedAt w bytes room shown (Err (AtStep r k)) → StopsThereAt w bytes shown r k
   refused-at room shown r k h = by-parse (parse bytes) refl
     where
-      by-check : (steps : List Step) (end : ℕ) → parse bytes ≡ got steps end → (c : Check Shown) → check_sheet (stopping w) steps ≡ c → at_step k (number_of r) ≡ (result_of c).told → shown ≡ sets room 0 (result_of c).numbers → length steps * 5 ≤ length room → StopsThereAt w bytes shown r k
+      by-check : (steps : List Step) (end : ℕ) → parse bytes ≡ got steps end → (c : Check Shown) → check_sheet (stopping w) steps ≡ c → at_step (number_of r) k ≡ (result_of c).told → shown ≡ sets room 0 (result_of c).numbers → length steps * 5 ≤ length room → StopsThereAt w bytes shown r k
       by-check steps end g (passed vs) c t s e = let z : ◌≡◌ {A = ℕ} 0 1 = cc in absurd (omega arith)
       by-check steps end g (refused_at vs q) c t s e =
           let n : number_of q ≡ number_of r = cc in
@@ -169,10 +155,10 @@ module _ (w : Width) (bytes : List ℕ) (within : Within w bytes) where
 
       by-parse : (g : Got (List Step)) → parse bytes ≡ g → StopsThereAt w bytes shown r k
       by-parse (got steps end) g =
-          let k' = walked w steps room shown (at_step k (number_of r)) (λ e. let z : ◌≡◌ {A = ℕ} 0 1 = cc in omega arith) (rw (checks-read w bytes room steps end g) at h) in
+          let k' = walked w steps room shown (at_step (number_of r) k) (λ e. let z : ◌≡◌ {A = ℕ} 0 1 = cc in omega arith) (rw (checks-read w bytes room steps end g) at h) in
           by-check steps end g k'.check k'.is k'.tells k'.stands k'.enough
       by-parse (refused n p) g =
-          let e : at_step k (number_of r) ≡ at_byte n p = (rw (checks-refused w bytes room n p g) at h).0 in
+          let e : at_step (number_of r) k ≡ at_byte n p = (rw (checks-refused w bytes room n p g) at h).0 in
           let z : ◌≡◌ {A = ℕ} 0 1 = cc in
           absurd (omega arith)
 
@@ -183,10 +169,10 @@ pub record Fives (n : ℕ) (shown : List ℤ) : Type 0 where
   pub many : length values ≡ n
   pub in-room : shown ≡ flat values ++ rest
 
-pub shown-fives : (bytes : List ℕ) (room shown : List ℤ) (n : ℕ) → Checked bytes room shown (Passed n) → Fives n shown
+pub shown-fives : (bytes : List ℕ) (room shown : List ℤ) (n : ℕ) → Checked bytes room shown (Ok n) → Fives n shown
 shown-fives bytes room shown n h = by-parse (parse bytes) refl
   where
-    by-check : (steps : List Step) (c : Check Shown) → check_sheet (stopping w64) steps ≡ c → passed_with n ≡ (result_of c).told → shown ≡ sets room 0 (result_of c).numbers → length steps * 5 ≤ length room → Fives n shown
+    by-check : (steps : List Step) (c : Check Shown) → check_sheet (stopping w64) steps ≡ c → done n ≡ (result_of c).told → shown ≡ sets room 0 (result_of c).numbers → length steps * 5 ≤ length room → Fives n shown
     by-check steps (refused_at vs q) c t s e = let z : ◌≡◌ {A = ℕ} 0 1 = cc in absurd (omega arith)
     by-check steps (passed vs) c t s e =
         let m : length vs ≡ n = cc in
@@ -195,17 +181,17 @@ shown-fives bytes room shown n h = by-parse (parse bytes) refl
 
     by-parse : (g : Got (List Step)) → parse bytes ≡ g → Fives n shown
     by-parse (got steps end) g =
-        let k = walked w64 steps room shown (passed_with n) (λ e. let z : ◌≡◌ {A = ℕ} 0 1 = cc in omega arith) (rw (checks-read w64 bytes room steps end g) at h) in
+        let k = walked w64 steps room shown (done n) (λ e. let z : ◌≡◌ {A = ℕ} 0 1 = cc in omega arith) (rw (checks-read w64 bytes room steps end g) at h) in
         by-check steps k.check k.is k.tells k.stands k.enough
     by-parse (refused m p) g =
-        let e : passed_with n ≡ at_byte m p = (rw (checks-refused w64 bytes room m p g) at h).0 in
+        let e : done n ≡ at_byte m p = (rw (checks-refused w64 bytes room m p g) at h).0 in
         let z : ◌≡◌ {A = ℕ} 0 1 = cc in
         absurd (omega arith)
 
 -- and so for `check` and `run`, at 64 bits
 module _ (bytes : List ℕ) (lent : Bytes bytes) where
-  pub passed-code : (room shown : List ℤ) (n : ℕ) → Checked bytes room shown (Passed n) → (ins : List ℤ) → InRanges bytes ins → (room' numbers : List ℤ) (r : RunAnswer) → n ≤ length room' → Ran bytes ins room' numbers r → Reaches n shown numbers r
+  pub passed-code : (room shown : List ℤ) (n : ℕ) → Checked bytes room shown (Ok n) → (ins : List ℤ) → InRanges bytes ins → (room' numbers : List ℤ) (r : Counted) → n ≤ length room' → Ran bytes ins room' numbers r → Reaches n shown numbers r
   passed-code = passed-at w64 bytes (within_64 bytes lent)
 
-  pub refused-code : (room shown : List ℤ) (r : Refusal) (k : ℕ) → Checked bytes room shown (RefusedAtStep r k) → StopsThere bytes shown r k
+  pub refused-code : (room shown : List ℤ) (r : Refusal) (k : ℕ) → Checked bytes room shown (Err (AtStep r k)) → StopsThere bytes shown r k
   refused-code = refused-at w64 bytes (within_64 bytes lent)

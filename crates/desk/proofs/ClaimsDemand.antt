@@ -6,10 +6,9 @@ use native.Mathlib.Nat.{add-zero}
 use native.Mathlib.Omega.{arith}
 use lib.IntN.{ℤ}
 use lib.ListN.{length, length-append}
+use Rattle.std.specs.Prelude.{Err, Ok, Result}
 use Rattle.refusal.specs.declared.Refusal.{Refusal}
 use Rattle.step.specs.Panel.{Panel, Honest, gives-in, stops-by, Lawful}
-use Rattle.step.specs.Range.{Answered, shows, declines}
-use Rattle.step.specs.declared.Outcome.TheVariants.{Gives}
 use Rattle.step.specs.declared.Action.{Action}
 use Rattle.step.specs.declared.Action.TheVariants.{Input, Does}
 use Rattle.panel.specs.Run.{at, run_step, run_from}
@@ -20,9 +19,9 @@ differ : {S : Type 0} {vs us : List S} {r : Refusal} → passed vs ≡ refused_a
 differ e = let z : ◌≡◌ {A = ℕ} 0 1 = cc in omega arith
 
 -- what one step shows is fair to its runs
-data StepFair (P : Panel) (shown : List P.Shown) (s : Action) : Answered P.Shown → Type 0 where
-  goes : {v : P.Shown} → ((ins env : List ℤ) → Each P env shown → Takes s ins → (n : ℤ) × (run_step P.run ins env s ≡ Gives n) × P.Has v n) → P.Good v → StepFair P shown s (shows v)
-  halts : {r : Refusal} → StepStops P shown r s → StepFair P shown s (declines r)
+data StepFair (P : Panel) (shown : List P.Shown) (s : Action) : Result P.Shown Refusal → Type 0 where
+  goes : {v : P.Shown} → ((ins env : List ℤ) → Each P env shown → Takes s ins → (n : ℤ) × (run_step P.run ins env s ≡ Ok n) × P.Has v n) → P.Good v → StepFair P shown s (Ok v)
+  halts : {r : Refusal} → StepStops P shown r s → StepFair P shown s (Err r)
 
 module _ (P : Panel) (L : Lawful P) where
   -- each number lies in what is shown at its place
@@ -48,12 +47,12 @@ module _ (P : Panel) (L : Lawful P) where
   unfolding run_step check_step
   step-fair shown (Input l h) ps f = goes taken (L.input-good l h f)
     where
-      taken : (ins env : List ℤ) → Each P env shown → Takes (Input l h) ins → (n : ℤ) × (Gives (at ins 0) ≡ Gives n) × P.Has (P.of_input l h) n
+      taken : (ins env : List ℤ) → Each P env shown → Takes (Input l h) ins → (n : ℤ) × ◌≡◌ {A = Result ℤ Refusal} (Ok (at ins 0)) (Ok n) × P.Has (P.of_input l h) n
       taken [] env e t = absurd t
       taken (x ∷ ins) env e t = (x, refl, L.input-has l h x f t.0 t.1)
   step-fair shown (Does o a b c) ps f = from (L.honest o _ _ _ f (look-good ps a) (look-good ps b) (look-good ps c))
     where
-      from : {r : Answered P.Shown} → Honest P o (shown_at P shown a) (shown_at P shown b) (shown_at P shown c) r → StepFair P shown (Does o a b c) r
+      from : {r : Result P.Shown Refusal} → Honest P o (shown_at P shown a) (shown_at P shown b) (shown_at P shown c) r → StepFair P shown (Does o a b c) r
       from (gives-in g p) = goes (λ ins env e t. g (at env a) (at env b) (at env c) (look e a) (look e b) (look e c)) p
       from (stops-by m) = halts (stopping m)
 
@@ -65,7 +64,7 @@ module _ (P : Panel) (L : Lawful P) where
       Rest : Type 0
       Rest = (shown vs : List P.Shown) (ins env : List ℤ) → AllGood P shown → Each P env shown → AllValid P ss → Suits ss ins → check_from P shown ss ≡ passed vs → Ends P (run_from P.run ins env ss) vs
 
-      go : {a : Answered P.Shown} → Rest → StepFair P shown s a → check_on shown a (λ v. check_from P (shown ++ (v ∷ [])) ss) ≡ passed vs → Ends P (run_from P.run ins env (s ∷ ss)) vs
+      go : {a : Result P.Shown Refusal} → Rest → StepFair P shown s a → check_on shown a (λ v. check_from P (shown ++ (v ∷ [])) ss) ≡ passed vs → Ends P (run_from P.run ins env (s ∷ ss)) vs
       go rest (halts m) c = absurd (differ (sym c))
       go rest (goes g p) c = let (n, d, h) = g ins env e t.0 in rw d (rest _ vs _ _ (more-good ps p) (more e h) f₁ t.1 c)
 
@@ -77,7 +76,7 @@ module _ (P : Panel) (L : Lawful P) where
       Rest : Type 0
       Rest = (shown vs : List P.Shown) (r : Refusal) → AllGood P shown → AllValid P ss → check_from P shown ss ≡ refused_at vs r → StopsAfter P (check_from P shown) ss vs r
 
-      go : {a : Answered P.Shown} → Rest → StepFair P shown s a → check_step P shown s ≡ a → check_on shown a (λ v. check_from P (shown ++ (v ∷ [])) ss) ≡ refused_at vs r → StopsAfter P (check_from P shown) (s ∷ ss) vs r
+      go : {a : Result P.Shown Refusal} → Rest → StepFair P shown s a → check_step P shown s ≡ a → check_on shown a (λ v. check_from P (shown ++ (v ∷ [])) ss) ≡ refused_at vs r → StopsAfter P (check_from P shown) (s ∷ ss) vs r
       go rest (goes {v = v} g p) d c =
           let m = rest (shown ++ (v ∷ [])) vs r (more-good ps p) f₁ c in
           record { before = s ∷ m.before; step = m.step; after = m.after; parts = ap (λ l. s ∷ l) m.parts; earlier = rw d m.earlier; stops = m.stops }
@@ -94,7 +93,7 @@ module _ (P : Panel) (L : Lawful P) where
       Rest : Type 0
       Rest = (shown : List P.Shown) → AllGood P shown → AllValid P ss → AllGood P (shown_by (check_from P shown ss))
 
-      go : {a : Answered P.Shown} → Rest → StepFair P shown s a → AllGood P (shown_by (check_on shown a (λ v. check_from P (shown ++ (v ∷ [])) ss)))
+      go : {a : Result P.Shown Refusal} → Rest → StepFair P shown s a → AllGood P (shown_by (check_on shown a (λ v. check_from P (shown ++ (v ∷ [])) ss)))
       go rest (halts m) = ps
       go rest (goes g p) = rest _ (more-good ps p) f₁
 
@@ -117,9 +116,9 @@ module _ (P : Panel) where
   count [] shown vs c = let e : vs ≡ shown = cc in rw (e, add-zero)
   count (s ∷ ss) shown vs c = go (count ss) (check_step P shown s) c
     where
-      go : ((shown vs : List P.Shown) → check_from P shown ss ≡ passed vs → length vs ≡ length shown + length ss) → (a : Answered P.Shown) → check_on shown a (λ v. check_from P (shown ++ (v ∷ [])) ss) ≡ passed vs → length vs ≡ length shown + suc (length ss)
-      go rest (declines r) c = absurd (differ (sym c))
-      go rest (shows v) c = omega (arith, rest (shown ++ (v ∷ [])) vs c, length-append shown (v ∷ []))
+      go : ((shown vs : List P.Shown) → check_from P shown ss ≡ passed vs → length vs ≡ length shown + length ss) → (a : Result P.Shown Refusal) → check_on shown a (λ v. check_from P (shown ++ (v ∷ [])) ss) ≡ passed vs → length vs ≡ length shown + suc (length ss)
+      go rest (Err r) c = absurd (differ (sym c))
+      go rest (Ok v) c = omega (arith, rest (shown ++ (v ∷ [])) vs c, length-append shown (v ∷ []))
 
   pub shows-each : (steps : List Action) (vs : List P.Shown) → check_from P [] steps ≡ passed vs → length vs ≡ length steps
   shows-each steps vs c = omega (arith, count steps [] vs c)

@@ -18,7 +18,8 @@ use Rattle.congruence.specs.Set.{cong, top, bottom?, domain?, domain_at?, form}
 use Rattle.congruence.specs.Numbers.{formula, gcd_then, abs_then, alike?, divides?}
 use Rattle.congruence.specs.Ported as spacing
 use Rattle.congruence.specs.Mended as spacing_mended
-use Rattle.sheet.specs.Step.{Step, step}
+use Rattle.sheet.specs.declared.step.Step.{Step}
+use Rattle.sheet.specs.Step.{step}
 use Rattle.sheet.proofs.Claims.{fourteen-read}
 use Rattle.step.specs.Kind.{operator_of, action_of}
 use Rattle.step.specs.Range.{range_op}

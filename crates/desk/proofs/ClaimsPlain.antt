@@ -25,14 +25,14 @@ use Rattle.step.specs.Show.{zero_shown}
 use Rattle.step.specs.Stopping.{InShown, stopping}
 use Rattle.panel.specs.Run.{actions_of}
 use Rattle.panel.specs.Answer.{Ran}
-use Rattle.panel.specs.declared.RunAnswer.{RunAnswer}
-use Rattle.panel.specs.declared.RunAnswer.TheVariants.{Ended}
+use Rattle.std.specs.Prelude.{Ok, Err}
+use Rattle.refusal.specs.declared.Fault.TheVariants.{AtStep}
+use Rattle.refusal.specs.Count.{Counted}
 use Rattle.desk.specs.Five.{flat, shown_in}
 use Rattle.desk.specs.Promise.{StepStops, stopping as stops-on}
 use Rattle.desk.specs.Answer.{Checked}
 use Rattle.desk.specs.Kept.{InRanges, StopsThere}
 use Rattle.desk.specs.Plain.{entry, SignSays, any, negative, nought, positive, from-0, not-0, to-0, Between, Inside, Stopping}
-use Rattle.desk.specs.declared.CheckAnswer.TheVariants.{Passed, RefusedAtStep}
 use Rattle.desk.proofs.Fives.{sign-back, found}
 use Rattle.desk.proofs.ClaimsDemand.{shows-each}
 use Rattle.desk.proofs.Names.{Names, names_at}
@@ -99,15 +99,15 @@ between shown a x q = record { low = q.low; high = q.high }
 
 module _ (bytes : List ℕ) (lent : Bytes bytes) (room shown : List ℤ) where
   -- if `check` passes n steps, then for all inputs in their ranges `run` ends with n, and each number of its room lies in what the check's room shows
-  pub passed-plainly : (n : ℕ) → Checked bytes room shown (Passed n) → (ins : List ℤ) → InRanges bytes ins → (room' numbers : List ℤ) (r : RunAnswer) → n ≤ length room' → Ran bytes ins room' numbers r
-      → (r ≡ Ended n) × ((k : ℕ) → k < n → Inside shown k (entry numbers k))
+  pub passed-plainly : (n : ℕ) → Checked bytes room shown (Ok n) → (ins : List ℤ) → InRanges bytes ins → (room' numbers : List ℤ) (r : Counted) → n ≤ length room' → Ran bytes ins room' numbers r
+      → (r ≡ Ok n) × ((k : ℕ) → k < n → Inside shown k (entry numbers k))
   passed-plainly n c ins i room' numbers r l g =
       let p = passed-code bytes lent room shown n c ins i room' numbers r l g in
       let f = shown-fives bytes room shown n c in
       (p.ends, λ k h. inside shown k _ (get_or f.values k zero_shown).sign (ap (λ t. entry t (k * 5 + 4)) f.in-room ∙ sign-entry f.values f.rest k (omega (arith, f.many))) (p.lies k h))
 
   -- if it refuses step k by r, that step names three earlier steps, and numbers between the ends shown of these stop it by r
-  pub refused-plainly : (r : Refusal) (k : ℕ) → Checked bytes room shown (RefusedAtStep r k) → Stopping bytes shown r k
+  pub refused-plainly : (r : Refusal) (k : ℕ) → Checked bytes room shown (Err (AtStep r k)) → Stopping bytes shown r k
   refused-plainly r k c = from (refused-code bytes lent room shown r k c)
     where
       from : StopsThere bytes shown r k → Stopping bytes shown r k

@@ -1,13 +1,14 @@
 -- Five numbers a step: what was put is found again, and what is put next stands behind it.
 use mathlib.Core.Path.{◌≡◌, refl, sym, ap, ap₂, ◌∙◌}
 use mathlib.Core.Bool.{Bool, true, false}
-use mathlib.Core.List.{List, [], ◌∷◌, ◌++◌}
-use Prim.Native.Nat.{ℕ, zero, suc, ◌+◌, ◌*◌, ◌≤◌, ◌<◌}
+use mathlib.Core.List.{List, [], ◌∷◌, ◌++◌, append_assoc}
+use Prim.Native.Nat.{ℕ, zero, suc, ◌+◌, ◌*◌, ◌-◌, ◌≤◌, ◌<◌}
 use native.Mathlib.Omega.{arith}
 use borrow.Author.Tests.{lt-ltb, ltb-true, ltb-false}
 use lib.Dec.{ltb}
 use lib.IntN.{ℤ}
 use lib.ListN.{length, take, drop, get_or, set, length-append, length-drop, get_or-eq_default}
+use borrow.Rule.Slice.PartMut.{put_mid}
 use lib.Seq.{sets, sets-eq, take_at, take-suc, take-length, drop-drop, drop-append-add}
 use Rattle.whole.specs.Choice.{pick}
 use Rattle.sign.specs.declared.Sign.{Sign}
@@ -17,13 +18,11 @@ use Rattle.step.specs.declared.show.Shown.{Shown}
 use Rattle.step.specs.Show.{zero_shown}
 use Rattle.desk.specs.Five.{five_of, flat, sign_at, shown_in, looked_up, shown_first}
 
-pub sets-five : (l : List ℤ) (i : ℕ) (a b c d e : ℤ) → sets l i (a ∷ b ∷ c ∷ d ∷ e ∷ []) ≡ set (set (set (set (set l i a) (i + 1) b) (i + 2) c) (i + 3) d) (i + 4) e
-sets-five l i a b c d e =
-    let e₁ : i + 1 ≡ suc i = omega arith in
-    let e₂ : i + 2 ≡ suc (suc i) = omega arith in
-    let e₃ : i + 3 ≡ suc (suc (suc i)) = omega arith in
-    let e₄ : i + 4 ≡ suc (suc (suc (suc i))) = omega arith in
-    rw (e₁, e₂, e₃, e₄) refl
+pub copied : (l v : List ℤ) (i : ℕ) → 5 ≡ length v → i + 5 ≤ length l → put_mid i (i + 5 - i) l v ≡ sets l i v
+copied l v i is h =
+    let k : i + 5 - i ≡ length v = omega (arith, is) in
+    let b : i + length v ≤ length l = omega (arith, is, h) in
+    rw k (sym (sets-eq v l i b ∙ append_assoc (take i l) v (drop (i + length v) l) ∙ rw (drop-drop (length v) i l) refl))
 
 pub sign-back : (s : Sign) → sign_at (index_of s) ≡ s
 unfolding sign_at

@@ -7,20 +7,20 @@ use native.Mathlib.Omega.{arith}
 use lib.IntN.{ℤ, pos}
 use lib.ListN.{length, get_or}
 use mir.Syntax.{w64}
+use Rattle.std.specs.Prelude.{Err}
 use Rattle.refusal.specs.declared.Refusal.{Refusal}
 use Rattle.whole.specs.Choice.{pick}
 use Rattle.whole.specs.Test.{◌≟◌}
 use Rattle.whole.specs.Whole.{up}
 use Rattle.whole.proofs.Decides.{branch, eq_test}
 use Rattle.sheet.specs.Operator.{rows, fields_of}
-use Rattle.sheet.specs.Step.{Step}
+use Rattle.sheet.specs.declared.step.Step.{Step}
 use Rattle.sheet.specs.Valid.{Fit, constant, input, one, two, three, Valid, ValidFrom, ended, and}
 use Rattle.sheet.specs.declared.operator.Fields.{Fields}
 use Rattle.sheet.specs.declared.operator.Fields.TheVariants.{Constant as ConstantFields, Input as InputFields, One, Two, Three}
 use Rattle.step.specs.declared.Operator.TheVariants.{Constant}
 use Rattle.step.specs.declared.Action.{Action}
 use Rattle.step.specs.declared.Action.TheVariants.{Input, Does}
-use Rattle.step.specs.declared.Outcome.TheVariants.{Stops}
 use Rattle.step.specs.Kind.{operator_of, action_of}
 use Rattle.step.specs.Run.{run_op}
 use Rattle.panel.specs.Run.{actions_of}
@@ -63,7 +63,7 @@ fit-earlier n (three p q r) = record { first = p; second = q; third = r }
 -- what an action that stops says of the places it names
 abbrev pub Names : ℕ → Action → Type 0
 Names k (Input l h) = Unit {0}
-Names k (Does o a b c) = (x y z : ℤ) (r : Refusal) → run_op w64 o x y z ≡ Stops r → Earlier k a b c
+Names k (Does o a b c) = (x y z : ℤ) (r : Refusal) → run_op w64 o x y z ≡ Err r → Earlier k a b c
 
 step-names : {k : ℕ} {s : Step} → Valid k s → Names k (action_of s.operator s.a s.b s.c)
 unfolding action_of run_op

@@ -19,7 +19,7 @@ use Rattle.whole.proofs.Decides.{branch, eq_test, le_test, both, yes, is_true}
 use Rattle.sign.proofs.Laws.{and_both}
 use Rattle.interval.proofs.Rem.{proper}
 use Rattle.sheet.specs.Operator.{fields_of}
-use Rattle.sheet.specs.Step.{Step}
+use Rattle.sheet.specs.declared.step.Step.{Step}
 use Rattle.sheet.specs.Valid.{Fit, constant, input, Valid, ValidFrom, ended, and}
 use Rattle.sheet.specs.declared.operator.Fields.TheVariants.{Constant as ConstantFields, Input as InputFields}
 use Rattle.step.specs.declared.Operator.{Operator}

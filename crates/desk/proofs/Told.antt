@@ -12,11 +12,10 @@ use Rattle.refusal.specs.declared.Refusal.{Refusal}
 use Rattle.refusal.specs.Number.{number_of}
 use Rattle.refusal.proofs.Claims.{number-tells}
 use Rattle.sheet.specs.Got.{Got, got, refused}
-use Rattle.sheet.specs.Step.{Step}
+use Rattle.sheet.specs.declared.step.Step.{Step}
 use Rattle.sheet.specs.Sheet.{parse}
 use Rattle.sheet.proofs.Answered.{parse-few, stored-first}
 use Rattle.step.specs.Panel.{Panel}
-use Rattle.step.specs.Range.{Answered, shows, declines}
 use Rattle.step.specs.declared.Action.{Action}
 use Rattle.step.specs.declared.show.Shown.{Shown}
 use Rattle.step.specs.Stopping.{stopping}
@@ -24,9 +23,11 @@ use Rattle.panel.specs.Run.{actions_of}
 use Rattle.panel.proofs.Told.{actions-length}
 use Rattle.desk.specs.Check.{Check, passed, refused_at, shown_by, check_step, check_on, check_from, check_sheet}
 use Rattle.desk.specs.Five.{flat, shown_first}
-use Rattle.desk.specs.declared.CheckAnswer.{CheckAnswer}
-use Rattle.desk.specs.declared.CheckAnswer.TheVariants.{Passed, RefusedAtStep, RefusedAt, Refused}
-use Rattle.desk.specs.Answer.{check_told, passed_with, at_step, at_byte, refused_by, Result, nothing, result_of, checked_on, checked_of, checking}
+use Rattle.std.specs.Prelude.{Ok, Err, Result}
+use Rattle.refusal.specs.declared.Fault.TheVariants.{AtStep, AtByte, By}
+use Rattle.refusal.specs.Answer.{done, at_step, at_byte, refused_by}
+use Rattle.refusal.specs.Count.{Counted, count_told}
+use Rattle.desk.specs.Answer.{Left, nothing, result_of, checked_on, checked_of, checking}
 use Rattle.desk.proofs.Fives.{length-flat, all_found}
 
 -- a check shows at most one value a step
@@ -38,9 +39,9 @@ check-few P shown (s ∷ ss) = by_answer (check_step P shown s) (λ v. check-few
     go : P.Shown → Check P.Shown
     go v = check_from P (shown ++ (v ∷ [])) ss
 
-    by_answer : (a : Answered P.Shown) → ((v : P.Shown) → length (shown_by (go v)) ≤ length (shown ++ (v ∷ [])) + length ss) → length (shown_by (check_on shown a go)) ≤ length shown + suc (length ss)
-    by_answer (shows v) more = omega (arith, more v, length-append shown (v ∷ []))
-    by_answer (declines r) more = omega arith
+    by_answer : (a : Result P.Shown Refusal) → ((v : P.Shown) → length (shown_by (go v)) ≤ length (shown ++ (v ∷ [])) + length ss) → length (shown_by (check_on shown a go)) ≤ length shown + suc (length ss)
+    by_answer (Ok v) more = omega (arith, more v, length-append shown (v ∷ []))
+    by_answer (Err r) more = omega arith
 
 pub checked-few : (s : List ℕ) (steps : List Step) (end : ℕ) → parse s ≡ got steps end → length (shown_by (check_sheet (stopping w64) steps)) ≤ 256
 checked-few s steps end e = omega (arith, check-few (stopping w64) [] (actions_of steps), actions-length steps, parse-few s steps end e)
@@ -54,7 +55,7 @@ pub record CheckedTo (s : List ℕ) (left : List ℤ) (check : Check Shown) (n :
   pub stored : take (n * 5 - 0) left ≡ flat (shown_by check)
   pub few : n ≤ 256
 
-data Tells (s : List ℕ) : Result → Type 0 where
+data Tells (s : List ℕ) : Left → Type 0 where
   checks : (xs : List Step) (p : ℕ) (c : Check Shown) → parse s ≡ got xs p → check_sheet (stopping w64) xs ≡ c → length (shown_by c) ≤ 256 → Tells s (result_of c)
   unread : (n p : ℕ) → parse s ≡ refused n p → Tells s (nothing (at_byte n p))
 
@@ -80,14 +81,14 @@ numbers-stand room vs n c h =
     e ∙ ap flat (stands room vs n c h)
 
 -- by what was answered
-passed-of : {s : List ℕ} (res : Result) (room left : List ℤ) → Tells s res → length room ≡ 1280 → left ≡ sets room 0 res.numbers → (n : ℕ) → res.told ≡ passed_with n → CheckedTo s left (passed (shown_first left n)) n
+passed-of : {s : List ℕ} (res : Left) (room left : List ℤ) → Tells s res → length room ≡ 1280 → left ≡ sets room 0 res.numbers → (n : ℕ) → res.told ≡ done n → CheckedTo s left (passed (shown_first left n)) n
 passed-of _ room left (checks xs p (passed vs) e c h) l f n q =
     let k : length vs ≡ n = cc in
     record { steps = xs; end = p; parsed = e; checked = c ∙ rw f (ap passed (stands room vs n k (omega arith))); stored = rw f (numbers-stand room vs n k (omega arith)); few = omega (arith, k, h) }
 passed-of _ room left (checks xs p (refused_at vs r) e c h) l f n q = let z : ◌≡◌ {A = ℕ} 0 1 = cc in absurd (omega arith)
 passed-of _ room left (unread m p e) l f n q = let z : ◌≡◌ {A = ℕ} 0 1 = cc in absurd (omega arith)
 
-refused-of : {s : List ℕ} (res : Result) (room left : List ℤ) → Tells s res → length room ≡ 1280 → left ≡ sets room 0 res.numbers → (n : ℕ) (why : Refusal) → res.told ≡ at_step n (number_of why) → CheckedTo s left (refused_at (shown_first left n) why) n
+refused-of : {s : List ℕ} (res : Left) (room left : List ℤ) → Tells s res → length room ≡ 1280 → left ≡ sets room 0 res.numbers → (n : ℕ) (why : Refusal) → res.told ≡ at_step (number_of why) n → CheckedTo s left (refused_at (shown_first left n) why) n
 refused-of _ room left (checks xs p (passed vs) e c h) l f n why q = let z : ◌≡◌ {A = ℕ} 0 1 = cc in absurd (omega arith)
 refused-of _ room left (checks xs p (refused_at vs r) e c h) l f n why q =
     let k : length vs ≡ n = cc in
@@ -95,7 +96,7 @@ refused-of _ room left (checks xs p (refused_at vs r) e c h) l f n why q =
     record { steps = xs; end = p; parsed = e; checked = c ∙ rw (f, ← number-tells r why b) (ap (λ ws. refused_at ws r) (stands room vs n k (omega arith))); stored = rw f (numbers-stand room vs n k (omega arith)); few = omega (arith, k, h) }
 refused-of _ room left (unread m p e) l f n why q = let z : ◌≡◌ {A = ℕ} 0 1 = cc in absurd (omega arith)
 
-unread-of : {s : List ℕ} (res : Result) → Tells s res → (m q : ℕ) → res.told ≡ at_byte m q → parse s ≡ refused m q
+unread-of : {s : List ℕ} (res : Left) → Tells s res → (m q : ℕ) → res.told ≡ at_byte m q → parse s ≡ refused m q
 unread-of _ (checks xs p (passed vs) e c h) m q f = let z : ◌≡◌ {A = ℕ} 0 1 = cc in absurd (omega arith)
 unread-of _ (checks xs p (refused_at vs r) e c h) m q f = let z : ◌≡◌ {A = ℕ} 0 1 = cc in absurd (omega arith)
 unread-of _ (unread n p e) m q f =
@@ -103,21 +104,21 @@ unread-of _ (unread n p e) m q f =
     let b : p ≡ q = cc in
     rw (← a, ← b) e
 
-never-of : {s : List ℕ} (res : Result) → Tells s res → (m : ℕ) → res.told ≡ refused_by m → ⊥
+never-of : {s : List ℕ} (res : Left) → Tells s res → (m : ℕ) → res.told ≡ refused_by m → ⊥
 never-of _ (checks xs p (passed vs) e c h) m f = let z : ◌≡◌ {A = ℕ} 0 1 = cc in omega arith
 never-of _ (checks xs p (refused_at vs r) e c h) m f = let z : ◌≡◌ {A = ℕ} 0 1 = cc in omega arith
 never-of _ (unread n p e) m f = let z : ◌≡◌ {A = ℕ} 0 1 = cc in omega arith
 
 -- of what the code answered
-module _ (s : List ℕ) (room left : List ℤ) (a : CheckAnswer) (t : check_told a ≡ (checking w64 s room).told) (e : left ≡ sets room 0 (checking w64 s room).numbers) (l : length room ≡ 1280) where
-  pub passed-check : (n : ℕ) → a ≡ Passed n → CheckedTo s left (passed (shown_first left n)) n
-  passed-check n q = passed-of _ room left (tells s room l) l e n (sym t ∙ ap check_told q)
+module _ (s : List ℕ) (room left : List ℤ) (a : Counted) (t : count_told a ≡ (checking w64 s room).told) (e : left ≡ sets room 0 (checking w64 s room).numbers) (l : length room ≡ 1280) where
+  pub passed-check : (n : ℕ) → a ≡ Ok n → CheckedTo s left (passed (shown_first left n)) n
+  passed-check n q = passed-of _ room left (tells s room l) l e n (sym t ∙ ap count_told q)
 
-  pub refused-check : (why : Refusal) (n : ℕ) → a ≡ RefusedAtStep why n → CheckedTo s left (refused_at (shown_first left n) why) n
-  refused-check why n q = refused-of _ room left (tells s room l) l e n why (sym t ∙ ap check_told q)
+  pub refused-check : (why : Refusal) (n : ℕ) → a ≡ Err (AtStep why n) → CheckedTo s left (refused_at (shown_first left n) why) n
+  refused-check why n q = refused-of _ room left (tells s room l) l e n why (sym t ∙ ap count_told q)
 
-  pub unread-check : (why : Refusal) (p : ℕ) → a ≡ RefusedAt why p → parse s ≡ refused (number_of why) p
-  unread-check why p q = unread-of _ (tells s room l) (number_of why) p (sym t ∙ ap check_told q)
+  pub unread-check : (why : Refusal) (p : ℕ) → a ≡ Err (AtByte why p) → parse s ≡ refused (number_of why) p
+  unread-check why p q = unread-of _ (tells s room l) (number_of why) p (sym t ∙ ap count_told q)
 
-  pub never-short : (why : Refusal) → a ≡ Refused why → ⊥
-  never-short why q = never-of _ (tells s room l) (number_of why) (sym t ∙ ap check_told q)
+  pub never-short : (why : Refusal) → a ≡ Err (By why) → ⊥
+  never-short why q = never-of _ (tells s room l) (number_of why) (sym t ∙ ap count_told q)

@@ -1,11 +1,10 @@
 -- The check of a sheet on shown values, for any panel: one fold over what the earlier steps showed.
-use Rattle.std.specs.Prelude.{List, [], ◌∷◌, ◌++◌, ℕ, get_or}
+use Rattle.std.specs.Prelude.{List, [], ◌∷◌, ◌++◌, ℕ, get_or, Err, Ok, Result}
 use Rattle.refusal.specs.declared.Refusal.{Refusal}
 use Rattle.step.specs.Panel.{Panel}
-use Rattle.step.specs.Range.{Answered, shows, declines}
 use Rattle.step.specs.declared.Action.{Action}
 use Rattle.step.specs.declared.Action.TheVariants.{Input, Does}
-use Rattle.sheet.specs.Step.{Step}
+use Rattle.sheet.specs.declared.step.Step.{Step}
 use Rattle.panel.specs.Run.{actions_of}
 
 -- what an earlier step showed; past the last stands 0
@@ -21,13 +20,13 @@ abbrev pub shown_by : {S : Type 0} → Check S → List S
 shown_by (passed vs) = vs
 shown_by (refused_at vs r) = vs
 
-unfoldable pub check_step : (P : Panel) → List P.Shown → Action → Answered P.Shown
-check_step P shown (Input l h) = shows (P.of_input l h)
+unfoldable pub check_step : (P : Panel) → List P.Shown → Action → Result P.Shown Refusal
+check_step P shown (Input l h) = Ok (P.of_input l h)
 check_step P shown (Does o p q r) = P.show o (shown_at P shown p) (shown_at P shown q) (shown_at P shown r)
 
-abbrev pub check_on : {S : Type 0} → List S → Answered S → (S → Check S) → Check S
-check_on shown (shows v) go = go v
-check_on shown (declines r) go = refused_at shown r
+abbrev pub check_on : {S : Type 0} → List S → Result S Refusal → (S → Check S) → Check S
+check_on shown (Ok v) go = go v
+check_on shown (Err r) go = refused_at shown r
 
 unfoldable pub check_from : (P : Panel) → List P.Shown → List Action → Check P.Shown
 check_from P shown [] = passed shown

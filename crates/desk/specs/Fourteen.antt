@@ -1,8 +1,8 @@
 -- The fourteen numbers of document 01, in its order, about the definitions themselves.
-use Rattle.std.specs.Prelude.{◌≡◌, true, false, List, [], ◌∷◌, ℕ, ◌≤◌, ℤ, pos, negsuc, length}
+use Rattle.std.specs.declared.cmp.Ordering.TheVariants.{Greater, Less}
+use Rattle.std.specs.Prelude.{◌≡◌, true, false, List, [], ◌∷◌, ℕ, ◌≤◌, ℤ, pos, negsuc, length, Some}
 use Rattle.std.specs.Int.{w64}
 use Rattle.whole.specs.Range.{least, greatest}
-use Rattle.whole.specs.declared.Order.TheVariants.{Less, Greater}
 use Rattle.sign.specs.declared.Sign.TheVariants.{Top, Negative, Zero, Positive, NonNeg, NonZero}
 use Rattle.sign.specs.Ported as sign
 use Rattle.sign.specs.Mended as sign_mended
@@ -14,22 +14,23 @@ use Rattle.interval.specs.Mended as range_mended
 use Rattle.congruence.specs.Set.{cong}
 use Rattle.congruence.specs.Ported as spacing
 use Rattle.congruence.specs.Mended as spacing_mended
-use Rattle.desk.specs.Answer.{Result, passed_with, checking}
+use Rattle.refusal.specs.Answer.{done}
+use Rattle.desk.specs.Answer.{Left, checking}
 
 -- the bytes of (14)
 abbrev pub portions : List ℕ
 portions = 0x03 ∷ 0x01 ∷ 0x02 ∷ 0x08 ∷ 0x00 ∷ 0xF4 ∷ 0x03 ∷ 0x04 ∷ 0x00 ∷ 0x01 ∷ []
 
 -- what its check tells and puts into the room, five numbers a step: [1, 4] 0 mod 1, [250, 250] 250 mod 0, [250, 1000] 0 mod 250, all Positive (4)
-abbrev pub portions_shown : Result
+abbrev pub portions_shown : Left
 portions_shown = record {
-  told = passed_with 3;
+  told = done 3;
   numbers = pos 1 ∷ pos 4 ∷ pos 0 ∷ pos 1 ∷ pos 4 ∷ pos 250 ∷ pos 250 ∷ pos 250 ∷ pos 0 ∷ pos 4 ∷ pos 250 ∷ pos 1000 ∷ pos 0 ∷ pos 250 ∷ pos 4 ∷ [];
 }
 
 pub record Fourteen : Type 0 where
   pub number-1 : sign.mul Negative NonZero ≡ NonZero
-  pub number-2 : (sign.weak_cmp Zero NonNeg ≡ Greater) × (sign_mended.weak_cmp Zero NonNeg ≡ Less)
+  pub number-2 : (sign.weak_cmp Zero NonNeg ≡ (Some Greater)) × (sign_mended.weak_cmp Zero NonNeg ≡ (Some Less))
   pub number-3 : (sign.div Positive NonZero ≡ NonZero) × (sign_mended.div Positive NonZero ≡ Top)
   pub number-4 : (range.ge_by (range.weak_cmp (single (pos 3)) (single (pos 3))) ≡ single (pos 0)) × (range_mended.greater_or_equal w64 (single (pos 3)) (single (pos 3)) ≡ is (single (pos 1)))
   pub number-5 : (range.neg (single (least w64)) ≡ refused 2) × (range.neg (least w64 ⋯ pos 5) ≡ is (negsuc 4 ⋯ greatest w64))

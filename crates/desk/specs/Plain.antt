@@ -1,14 +1,13 @@
 -- Demand 3 in plain numbers: of the numbers that stand in the rooms of `check` and `run`, by ≤, divisibility and the signs of integers.
-use Rattle.std.specs.Prelude.{◌≡◌, ◌≢◌, List, ℕ, ◌+◌, ◌*◌, ◌<◌, ℤ, pos, ◌-ℤ◌, get_or, ◌≤ℤ◌, ◌<ℤ◌}
+use Rattle.std.specs.Prelude.{◌≡◌, ◌≢◌, List, ℕ, ◌+◌, ◌*◌, ◌<◌, ℤ, pos, ◌-ℤ◌, get_or, ◌≤ℤ◌, ◌<ℤ◌, Err}
 use Rattle.std.specs.Int.{w64}
 use Rattle.refusal.specs.declared.Refusal.{Refusal}
 use Rattle.whole.specs.Divides.{◌∣ℤ◌}
 use Rattle.sheet.specs.Got.{got}
-use Rattle.sheet.specs.Step.{Step}
+use Rattle.sheet.specs.declared.step.Step.{Step}
 use Rattle.sheet.specs.Sheet.{parse}
 use Rattle.step.specs.declared.Operator.{Operator}
 use Rattle.step.specs.declared.Action.TheVariants.{Input, Does}
-use Rattle.step.specs.declared.Outcome.TheVariants.{Stops}
 use Rattle.step.specs.Run.{run_op}
 use Rattle.panel.specs.Run.{actions_of}
 
@@ -56,4 +55,4 @@ pub record Stopping (bytes : List ℕ) (shown : List ℤ) (r : Refusal) (k : ℕ
   pub x-in : Between shown a x
   pub y-in : Between shown b y
   pub z-in : Between shown c z
-  pub stops : run_op w64 operator x y z ≡ Stops r
+  pub stops : run_op w64 operator x y z ≡ Err r

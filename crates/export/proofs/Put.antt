@@ -14,7 +14,7 @@ use Rattle.refusal.specs.Answer.{Answer}
 use Rattle.refusal.specs.Answer as answers
 use Rattle.congruence.specs.declared.Congruence.{Congruence}
 use Rattle.congruence.specs.Set.{cong}
-use Rattle.export.specs.Call.{Result, refused_by, put, range, spacing, Leaves}
+use Rattle.export.specs.Call.{Left, refused_by, put, range, spacing, Leaves}
 
 -- ---- numbers that are put
 module _ (ns room : List ℤ) where
@@ -27,15 +27,15 @@ module _ (ns room : List ℤ) where
   put-short h = rw (lt-leb (length ns) (length room) h) refl
 
   pub leaves_all : (left : List ℤ) → length ns ≤ length room → left ≡ sets room 0 ns → Leaves (put ns) room 0 left
-  leaves_all left h e = record { status-is = sym (ap (λ (r : Result). r.status) (put_all h)); room-is = e ∙ sym (ap (λ (r : Result). sets room 0 r.numbers) (put_all h)) }
+  leaves_all left h e = record { status-is = sym (ap (λ (r : Left). r.status) (put_all h)); room-is = e ∙ sym (ap (λ (r : Left). sets room 0 r.numbers) (put_all h)) }
 
   pub leaves-short : (s : ℕ) → length room < length ns → s ≡ 16 → Leaves (put ns) room s room
-  leaves-short s h e = record { status-is = e ∙ sym (ap (λ (r : Result). r.status) (put-short h)); room-is = sym (ap (λ (r : Result). sets room 0 r.numbers) (put-short h)) }
+  leaves-short s h e = record { status-is = e ∙ sym (ap (λ (r : Left). r.status) (put-short h)); room-is = sym (ap (λ (r : Left). sets room 0 r.numbers) (put-short h)) }
 
   -- status 0, or nothing is put
   pub put-either : ((put ns room).status ≡ 0) ⊎ ((put ns room).numbers ≡ [])
   unfolding put
-  put-either = branch (leb-test (length ns) (length room)) (λ (r : Result). (r.status ≡ 0) ⊎ (r.numbers ≡ [])) (λ h. inl refl) (λ h. inr refl)
+  put-either = branch (leb-test (length ns) (length room)) (λ (r : Left). (r.status ≡ 0) ⊎ (r.numbers ≡ [])) (λ h. inl refl) (λ h. inr refl)
 
 -- ---- an operation on two values, each made of two numbers
 module _ {room left : List ℤ} {s : ℕ} where

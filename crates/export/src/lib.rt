@@ -1,5 +1,6 @@
 // What Rust or C calls, with the symbols of export_c: numbers and lent slices, and nothing asked but what the language asks of lent slices.
 // A call returns a status, 0 where its value was put, else the number of the refusal. A refusal of the operation goes before 16.
+// Numbers for values and statuses, a function for each symbol and its room beside: the interface of C, which calls these by export_c.
 #![tactic(auto)]
 
 ghost use Rattle.std.specs.Prelude.{[], ◌∷◌, pos, nat_abs};
@@ -9,7 +10,6 @@ ghost use Rattle.whole.specs.Exact.{exactly};
 ghost use Rattle.export.specs.Call.{Leaves, put, number};
 
 use refusal::Refusal;
-use whole::Exact;
 
 pub mod ranges; // ranges.rt: intervals, two numbers each
 pub mod spacings; // spacings.rt: congruences, two numbers each
@@ -43,7 +43,7 @@ pub fn tunisaypa_gcd(a: i64, b: i64, room: &mut [i64]) -> u8
     ensures { Leaves (number (exactly w64 (pos (divides.gcd (nat_abs a) (nat_abs b))))) room.old result room.new }
 {
     match whole::gcd(a, b) {
-        Exact::Is(g) => put_one(room, g),
-        Exact::DoesNotFit => Refusal::DoesNotFit.number(),
+        Some(g) => put_one(room, g),
+        None => Refusal::DoesNotFit.number(),
     }
 }

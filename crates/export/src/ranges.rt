@@ -1,23 +1,24 @@
 // Intervals, as two numbers each: [a, b] and [c, d]. The answer's two go into the lent room.
-ghost use Rattle.std.specs.Prelude.{◌≡◌};
+ghost use Rattle.std.specs.Prelude.{◌≡◌, Ok};
 ghost use Rattle.std.specs.Int.{w64};
 ghost use Rattle.interval.specs.Set.{◌⋯◌};
-ghost use Rattle.refusal.specs.Answer.{is};
-ghost use Rattle.interval.specs.Answer.{told};
+ghost use Rattle.refusal.specs.Answer.{is, told};
 ghost use Rattle.interval.specs.Mended as mended;
 ghost use Rattle.interval.specs.Ported as ported;
 ghost use Rattle.export.specs.Call.{Leaves, range};
 
 use crate::put_two;
-use interval::{Interval, IntervalAnswer};
+use interval::Interval;
+use refusal::Refusal;
+use whole::Size;
 
 // Puts an answer's range into the lent room.
-fn put_range(room: &mut [i64], answer: IntervalAnswer) -> u8
+fn put_range(room: &mut [i64], answer: Result<Interval, Refusal>) -> u8
     ensures { Leaves (range (told answer)) room.old result room.new }
 {
     match answer {
-        IntervalAnswer::Is(v) => put_two(room, v.min, v.max),
-        IntervalAnswer::Refused(r) => r.number(),
+        Ok(v) => put_two(room, v.min, v.max),
+        Err(r) => r.number(),
     }
 }
 
@@ -35,7 +36,7 @@ pub fn tunisaypa_interval_add(a: i64, b: i64, c: i64, d: i64, room: &mut [i64]) 
 {
     let x = between(a, b);
     let y = between(c, d);
-    put_range(room, IntervalAnswer::Is(interval::ported::add(x, y)))
+    put_range(room, Ok(interval::ported::add(x, y)))
 }
 
 // From the least to the greatest of the four saturated corner products.
@@ -44,7 +45,7 @@ pub fn tunisaypa_interval_mul(a: i64, b: i64, c: i64, d: i64, room: &mut [i64]) 
 {
     let x = between(a, b);
     let y = between(c, d);
-    put_range(room, IntervalAnswer::Is(interval::ported::mul(x, y)))
+    put_range(room, Ok(interval::ported::mul(x, y)))
 }
 
 // The remainders, by the greatest absolute value of the divisor's ends.
@@ -62,7 +63,7 @@ pub fn tunisaypa_interval_join(a: i64, b: i64, c: i64, d: i64, room: &mut [i64])
 {
     let x = between(a, b);
     let y = between(c, d);
-    put_range(room, IntervalAnswer::Is(interval::ported::join(x, y)))
+    put_range(room, Ok(interval::ported::join(x, y)))
 }
 
 // ---- mended
@@ -73,7 +74,7 @@ pub fn tunisaypa_mended_interval_add(a: i64, b: i64, c: i64, d: i64, room: &mut 
 {
     let x = between(a, b);
     let y = between(c, d);
-    put_range(room, interval::mended::add(x, y))
+    put_range(room, interval::mended::add(Size::B64, x, y))
 }
 
 // The least range of all products.
@@ -82,7 +83,7 @@ pub fn tunisaypa_mended_interval_mul(a: i64, b: i64, c: i64, d: i64, room: &mut 
 {
     let x = between(a, b);
     let y = between(c, d);
-    put_range(room, interval::mended::mul(x, y))
+    put_range(room, interval::mended::mul(Size::B64, x, y))
 }
 
 // The remainders, by the greatest magnitude in the divisor.
@@ -91,5 +92,5 @@ pub fn tunisaypa_mended_interval_rem(a: i64, b: i64, c: i64, d: i64, room: &mut 
 {
     let x = between(a, b);
     let y = between(c, d);
-    put_range(room, interval::mended::rem(x, y))
+    put_range(room, interval::mended::rem(Size::B64, x, y))
 }

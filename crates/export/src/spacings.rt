@@ -1,22 +1,24 @@
 // Congruences, as two numbers each: (c, m) and (e, n). The answer's two go into the lent room.
-ghost use Rattle.std.specs.Prelude.{◌≡◌};
+ghost use Rattle.refusal.specs.Answer.{told};
+ghost use Rattle.std.specs.Prelude.{◌≡◌, Ok};
 ghost use Rattle.std.specs.Int.{w64};
 ghost use Rattle.congruence.specs.Set.{cong};
-ghost use Rattle.congruence.specs.Answer.{told};
 ghost use Rattle.congruence.specs.Mended as mended;
 ghost use Rattle.congruence.specs.Ported as ported;
 ghost use Rattle.export.specs.Call.{Leaves, spacing};
 
 use crate::put_two;
-use congruence::{Congruence, CongruenceAnswer};
+use congruence::Congruence;
+use refusal::Refusal;
+use whole::Size;
 
 // Puts an answer's spacing into the lent room.
-fn put_spacing(room: &mut [i64], answer: CongruenceAnswer) -> u8
+fn put_spacing(room: &mut [i64], answer: Result<Congruence, Refusal>) -> u8
     ensures { Leaves (spacing (told answer)) room.old result room.new }
 {
     match answer {
-        CongruenceAnswer::Is(v) => put_two(room, v.constant, v.modulus),
-        CongruenceAnswer::Refused(r) => r.number(),
+        Ok(v) => put_two(room, v.constant, v.modulus),
+        Err(r) => r.number(),
     }
 }
 
@@ -63,7 +65,7 @@ pub fn tunisaypa_mended_congruence_join(c: i64, m: i64, e: i64, n: i64, room: &m
 {
     let x = modulo(c, m);
     let y = modulo(e, n);
-    put_spacing(room, congruence::mended::join(x, y))
+    put_spacing(room, congruence::mended::join(Size::B64, x, y))
 }
 
 // The products, by the Rust's formula, made canonical.
@@ -72,7 +74,7 @@ pub fn tunisaypa_mended_congruence_mul(c: i64, m: i64, e: i64, n: i64, room: &mu
 {
     let x = modulo(c, m);
     let y = modulo(e, n);
-    put_spacing(room, congruence::mended::mul(x, y))
+    put_spacing(room, congruence::mended::mul(Size::B64, x, y))
 }
 
 // The common numbers.
@@ -81,5 +83,5 @@ pub fn tunisaypa_mended_congruence_meet(c: i64, m: i64, e: i64, n: i64, room: &m
 {
     let x = modulo(c, m);
     let y = modulo(e, n);
-    put_spacing(room, congruence::mended::meet(x, y))
+    put_spacing(room, congruence::mended::meet(Size::B64, x, y))
 }

@@ -1,4 +1,5 @@
 // What C and Rust link: each function of the crate `export` under its own name, with its own clause.
+// Numbers for values, statuses and rooms, and one function for each name: C's interface.
 #![tactic(auto)]
 
 ghost use Rattle.std.specs.Prelude.{pos, nat_abs};

@@ -5,15 +5,13 @@ use Prim.Native.Nat.{ℕ}
 use lib.IntN.{ℤ, neg_ℤ, ◌+ℤ◌, ◌-ℤ◌, ◌*ℤ◌}
 use lib.Signed.{◌≤ℤ◌, ◌<ℤ◌}
 use mir.Syntax.{Width, w64}
+use Rattle.refusal.specs.declared.Refusal.{Refusal}
+use Rattle.interval.specs.declared.Pair.{Pair}
+use Rattle.std.specs.Prelude.{Err, Ok, Result}
 use Rattle.whole.proofs.Linear.{ints}
 use Rattle.whole.proofs.Linear as L
-use Rattle.refusal.specs.Answer.{Answer, is, refused}
+use Rattle.refusal.specs.Answer.{Answer, is, refused, told}
 use Rattle.refusal.proofs.Claims.{number-tells}
-use Rattle.interval.specs.declared.IntervalAnswer.{IntervalAnswer}
-use Rattle.interval.specs.declared.IntervalAnswer.TheVariants.{Is, Refused}
-use Rattle.interval.specs.declared.PairAnswer.{PairAnswer}
-use Rattle.interval.specs.declared.PairAnswer.TheVariants as pair
-use Rattle.interval.specs.Answer.{told, pair_told}
 use Rattle.interval.specs.Set.{Interval, ◌∈◌, ◌∉◌, top, bottom, Proper, Canonical, none}
 use Rattle.interval.specs.Mended.{ranged, neg, add, sub, mul, div, rem, less_v, less_or_equal_v, equals_v, equals, less, greater, less_or_equal, greater_or_equal, magnitude, narrowed, filled, narrow, join}
 use Rattle.interval.specs.Promise.{Operation, Arithmetic, Arithmetic₁, Exact, fitting, too_wide, Beyond, Quotients, Magnitude, Remainders, Comparison, Narrowing}
@@ -28,17 +26,17 @@ use Rattle.interval.proofs.Narrow.{narrow-outside, narrow-beside, narrow-ordered
 use Rattle.interval.proofs.First.{strict-outside, strict-beside, strict-full, arithmetic, comparison, exchanged}
 
 -- ---- two answers that tell the same are the same, so a contract on what is told fixes the answer
-pub answer-fixed : (r s : IntervalAnswer) → told r ≡ told s → r ≡ s
-answer-fixed (Is u) (Is v) e = cc
-answer-fixed (Is u) (Refused r) e = let z : ◌≡◌ {A = ℕ} 0 1 = cc in absurd (omega ints)
-answer-fixed (Refused q) (Is v) e = let z : ◌≡◌ {A = ℕ} 0 1 = cc in absurd (omega ints)
-answer-fixed (Refused q) (Refused r) e = ap Refused (number-tells q r cc)
+pub answer-fixed : (r s : Result Interval Refusal) → told r ≡ told s → r ≡ s
+answer-fixed (Ok u) (Ok v) e = cc
+answer-fixed (Ok u) (Err r) e = let z : ◌≡◌ {A = ℕ} 0 1 = cc in absurd (omega ints)
+answer-fixed (Err q) (Ok v) e = let z : ◌≡◌ {A = ℕ} 0 1 = cc in absurd (omega ints)
+answer-fixed (Err q) (Err r) e = ap Err (number-tells q r cc)
 
-pub pair-fixed : (r s : PairAnswer) → pair_told r ≡ pair_told s → r ≡ s
-pair-fixed (pair.Is u) (pair.Is v) e = cc
-pair-fixed (pair.Is u) (pair.Refused r) e = let z : ◌≡◌ {A = ℕ} 0 1 = cc in absurd (omega ints)
-pair-fixed (pair.Refused q) (pair.Is v) e = let z : ◌≡◌ {A = ℕ} 0 1 = cc in absurd (omega ints)
-pair-fixed (pair.Refused q) (pair.Refused r) e = ap pair.Refused (number-tells q r cc)
+pub pair-fixed : (r s : Result Pair Refusal) → told r ≡ told s → r ≡ s
+pair-fixed (Ok u) (Ok v) e = cc
+pair-fixed (Ok u) (Err r) e = let z : ◌≡◌ {A = ℕ} 0 1 = cc in absurd (omega ints)
+pair-fixed (Err q) (Ok v) e = let z : ◌≡◌ {A = ℕ} 0 1 = cc in absurd (omega ints)
+pair-fixed (Err q) (Err r) e = ap Err (number-tells q r cc)
 
 -- ---- neg, add, sub, mul: the least range holding all exact results, or 2 where one of its ends doesn't fit
 pub add-exact : (w : Width) → Arithmetic w (Exact w ◌+ℤ◌) (add w)

@@ -5,15 +5,15 @@ use Prim.Native.Nat.{ℕ}
 use lib.IntN.{ℤ, pos, ◌+ℤ◌, ◌-ℤ◌}
 use lib.Signed.{◌≤ℤ◌, ◌<ℤ◌}
 use mir.Syntax.{w64}
+use Rattle.std.specs.declared.cmp.Ordering.{Ordering}
+use Rattle.std.specs.Prelude.{None, Option, Some}
+use Rattle.std.specs.declared.cmp.Ordering.TheVariants.{Equal, Greater, Less}
 use Rattle.whole.specs.Range.{least, greatest}
-use Rattle.whole.specs.declared.Order.{Order}
-use Rattle.whole.specs.declared.Order.TheVariants.{Less, Equal, Greater, None}
 use Rattle.whole.proofs.Linear.{ints}
 use Rattle.whole.proofs.Linear as L
 use Rattle.whole.proofs.Decides.{Decides, branch, either, le_test, lt_test, eq_test, is_true, is_false}
 use Rattle.interval.specs.declared.Pair.{Pair}
 use Rattle.interval.specs.Set.{Interval, ◌∈◌, bottom, single, Proper, Canonical}
-use Rattle.interval.specs.declared.Single.TheVariants.{One}
 use Rattle.refusal.specs.Answer.{Answer}
 use Rattle.interval.specs.Mended.{filled}
 use Rattle.interval.specs.PortedPromise.{Sides, Answered, answers, refuses}
@@ -94,7 +94,7 @@ less-when-exact {a} {b} c d =
 -- ---- error 4: the weak order never answers Equal, so that <= and >= of ranges that touch are false
 module _ (a b : Interval) where
   -- two single numbers that are equal come before as Less
-  pub weak-never-equal : weak_cmp a b ≡ Equal → ⊥
+  pub weak-never-equal : weak_cmp a b ≡ (Some Equal) → ⊥
   unfolding weak_cmp same_one singleton
   weak-never-equal =
       branch (either (bottom-test w64 a) (bottom-test w64 b)) N (λ _ e. no_none e) λ _.
@@ -102,22 +102,22 @@ module _ (a b : Interval) where
       branch (le_test b.max a.min) N (λ _ e. no-greater e) λ g.
       not_same l
     where
-      N : Order → Type 0
-      N o = o ≡ Equal → ⊥
+      N : Option Ordering → Type 0
+      N o = o ≡ (Some Equal) → ⊥
 
-      no_none : None ≡ Equal → ⊥
+      no_none : None ≡ (Some Equal) → ⊥
       no_none e = let z : ◌≡◌ {A = ℕ} 0 1 = cc in omega ints
 
-      no_less : Less ≡ Equal → ⊥
+      no_less : (Some Less) ≡ (Some Equal) → ⊥
       no_less e = let z : ◌≡◌ {A = ℕ} 0 1 = cc in omega ints
 
-      no-greater : Greater ≡ Equal → ⊥
+      no-greater : (Some Greater) ≡ (Some Equal) → ⊥
       no-greater e = let z : ◌≡◌ {A = ℕ} 0 1 = cc in omega ints
 
       not_same : b.min <ℤ a.max → N (same_one (singleton a) (singleton b))
       not_same l =
           branch (eq_test a.min a.max) (λ s. N (same_one s (singleton b))) (λ e.
-          branch (eq_test b.min b.max) (λ s. N (same_one (One a.min) s)) (λ f.
+          branch (eq_test b.min b.max) (λ s. N (same_one (Some a.min) s)) (λ f.
           branch (eq_test a.min b.min) N (λ h. absurd (omega ints)) (λ _. no_none)) (λ _. no_none)) (λ _. no_none)
 
 -- the pair of touching ends holds, and the answer is false

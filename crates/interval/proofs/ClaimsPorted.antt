@@ -6,13 +6,13 @@ use lib.IntN.{ℤ, pos, neg_ℤ, nat_abs, ◌+ℤ◌, ◌-ℤ◌, ◌*ℤ◌}
 use lib.Signed.{◌≤ℤ◌, rem_z}
 use mir.Syntax.{w64}
 use mir.Val.{SFits}
+use Rattle.std.specs.declared.cmp.Ordering.{Ordering}
+use Rattle.std.specs.Prelude.{None, Option}
 use Rattle.whole.specs.Choice.{pick}
 use Rattle.whole.specs.Test.{◌≤?◌, ◌<?◌, ◌≟◌}
 use Rattle.whole.specs.Whole.{max_ℤ}
 use Rattle.whole.specs.Range.{least, greatest, clamp}
 use Rattle.whole.specs.Exact.{exactly}
-use Rattle.whole.specs.declared.Order.{Order}
-use Rattle.whole.specs.declared.Order.TheVariants.{None}
 use Rattle.whole.proofs.Linear.{ints, abs, split}
 use Rattle.whole.proofs.Linear as L
 use Rattle.whole.proofs.Shapes.{lin}
@@ -138,7 +138,7 @@ module _ {a b : Interval} {x y : ℤ} (p : x ∈ a) (q : y ∈ b) (nz : y ≢ po
       branch (le_test (pos 0) a.min) P (λ h. record { low = rem-nonneg x y (omega ints); high = within.1 }) λ g.
       branch (eq_test a.min a.max) (λ t. P (same_one t (singleton (single (pos 0))))) (λ e. absurd (omega ints)) (λ _. both-sides)
     where
-      P : Order → Type 0
+      P : Option Ordering → Type 0
       P o = rem_z x y ∈ rem_by o (neg_ℤ m +ℤ pos 1) (m -ℤ pos 1)
 
       both-sides : P None

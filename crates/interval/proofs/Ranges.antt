@@ -6,24 +6,22 @@ use lib.IntN.{ℤ, neg_ℤ, ◌+ℤ◌, ◌-ℤ◌, ◌*ℤ◌}
 use lib.Signed.{◌≤ℤ◌, quot_z}
 use mir.Syntax.{Width, w64}
 use mir.Val.{SFits}
+use Rattle.refusal.specs.declared.Refusal.{Refusal}
+use Rattle.std.specs.Prelude.{None, Option, Result, Some}
 use Rattle.whole.specs.Choice.{pick}
 use Rattle.whole.specs.Whole.{min_ℤ, max_ℤ, min4, max4}
 use Rattle.whole.specs.Range.{fits?}
 use Rattle.whole.specs.Exact.{exactly}
 use Rattle.whole.specs.Sized.{width_of}
 use Rattle.whole.specs.declared.Size.{Size}
-use Rattle.whole.specs.declared.Exact.{Exact}
-use Rattle.whole.specs.declared.Exact.TheVariants.{Is, DoesNotFit}
 use Rattle.whole.proofs.Linear.{ints}
 use Rattle.whole.proofs.Linear as L
 use Rattle.whole.proofs.Fits.{low, high, fits}
 use Rattle.whole.proofs.Decides.{Beyond, both, branch, is_false, fits-test, same_test, not_beyond}
 use Rattle.whole.proofs.Sizes.{wider}
 use Rattle.whole.proofs.Calls.{called-1, called}
-use Rattle.interval.specs.declared.IntervalAnswer.{IntervalAnswer}
 use Rattle.interval.specs.Set.{Interval, ◌⋯◌, ◌∈◌, top, Proper}
-use Rattle.refusal.specs.Answer.{is, refused}
-use Rattle.interval.specs.Answer.{told}
+use Rattle.refusal.specs.Answer.{is, refused, told}
 use Rattle.interval.specs.Ends.{range_of, least_of, greatest_of, held_range}
 use Rattle.interval.specs.Mended.{ranged, strict, low_corner, high_corner}
 use Rattle.interval.specs.Results.{Least}
@@ -32,16 +30,16 @@ use Rattle.interval.proofs.Ends.{low-in, min-is, max-is}
 use Rattle.interval.proofs.Test.{in-test}
 
 -- ---- a call of an exact operation
-pub neg-called : (s : Size) (a m : ℤ) (r : Exact) → r ≡ exactly (width_of s) (neg_ℤ m) → m ≡ a → r ≡ exactly (width_of s) (neg_ℤ a)
+pub neg-called : (s : Size) (a m : ℤ) (r : Option ℤ) → r ≡ exactly (width_of s) (neg_ℤ m) → m ≡ a → r ≡ exactly (width_of s) (neg_ℤ a)
 neg-called s = called-1 (λ x. exactly (width_of s) (neg_ℤ x))
 
-pub add-called : (s : Size) (a m b n : ℤ) (r : Exact) → r ≡ exactly (width_of s) (m +ℤ n) → m ≡ a → n ≡ b → r ≡ exactly (width_of s) (a +ℤ b)
+pub add-called : (s : Size) (a m b n : ℤ) (r : Option ℤ) → r ≡ exactly (width_of s) (m +ℤ n) → m ≡ a → n ≡ b → r ≡ exactly (width_of s) (a +ℤ b)
 add-called s = called (λ x y. exactly (width_of s) (x +ℤ y))
 
-pub sub-called : (s : Size) (a m b n : ℤ) (r : Exact) → r ≡ exactly (width_of s) (m -ℤ n) → m ≡ a → n ≡ b → r ≡ exactly (width_of s) (a -ℤ b)
+pub sub-called : (s : Size) (a m b n : ℤ) (r : Option ℤ) → r ≡ exactly (width_of s) (m -ℤ n) → m ≡ a → n ≡ b → r ≡ exactly (width_of s) (a -ℤ b)
 sub-called s = called (λ x y. exactly (width_of s) (x -ℤ y))
 
-pub mul-called : (s : Size) (a m b n : ℤ) (r : Exact) → r ≡ exactly (width_of s) (m *ℤ n) → m ≡ a → n ≡ b → r ≡ exactly (width_of s) (a *ℤ b)
+pub mul-called : (s : Size) (a m b n : ℤ) (r : Option ℤ) → r ≡ exactly (width_of s) (m *ℤ n) → m ≡ a → n ≡ b → r ≡ exactly (width_of s) (a *ℤ b)
 mul-called s = called (λ x y. exactly (width_of s) (x *ℤ y))
 
 -- ---- the range between two exact ends
@@ -49,22 +47,22 @@ pub range-is : (w : Width) (lo hi : ℤ) → range_of (exactly w lo) (exactly w 
 unfolding range_of exactly fits?
 range-is w lo hi = go (fits? w lo) (fits? w hi)
   where
-    go : (p q : Bool) → range_of (pick p (Is lo) DoesNotFit) (pick q (Is hi) DoesNotFit) ≡ pick (p && q) (is (lo ⋯ hi)) (refused 2)
+    go : (p q : Bool) → range_of (pick p (Some lo) None) (pick q (Some hi) None) ≡ pick (p && q) (is (lo ⋯ hi)) (refused 2)
     go true true = refl
     go true false = refl
     go false q = refl
 
-pub ranged-made : (z : Size) (a b : Interval) (lo hi : ℤ) (e f : Exact) (s r : IntervalAnswer) → told r ≡ strict (width_of z) a b (told s) → told s ≡ range_of e f → e ≡ exactly (width_of z) lo → f ≡ exactly (width_of z) hi → told r ≡ strict (width_of z) a b (ranged (width_of z) lo hi)
+pub ranged-made : (z : Size) (a b : Interval) (lo hi : ℤ) (e f : Option ℤ) (s r : Result Interval Refusal) → told r ≡ strict (width_of z) a b (told s) → told s ≡ range_of e f → e ≡ exactly (width_of z) lo → f ≡ exactly (width_of z) hi → told r ≡ strict (width_of z) a b (ranged (width_of z) lo hi)
 ranged-made z a b lo hi e f s r h k p q = let m : told s ≡ ranged (width_of z) lo hi = rw (p, q) at k ∙ range-is (width_of z) lo hi in rw m at h
 
 -- ---- the range of four corners
-pub least-called : (a m b n r : Exact) → r ≡ least_of m n → m ≡ a → n ≡ b → r ≡ least_of a b
+pub least-called : (a m b n r : Option ℤ) → r ≡ least_of m n → m ≡ a → n ≡ b → r ≡ least_of a b
 least-called = called least_of
 
-pub greatest-called : (a m b n r : Exact) → r ≡ greatest_of m n → m ≡ a → n ≡ b → r ≡ greatest_of a b
+pub greatest-called : (a m b n r : Option ℤ) → r ≡ greatest_of m n → m ≡ a → n ≡ b → r ≡ greatest_of a b
 greatest-called = called greatest_of
 
-pub range-called : (a m b n : Exact) (r : IntervalAnswer) → told r ≡ range_of m n → m ≡ a → n ≡ b → told r ≡ range_of a b
+pub range-called : (a m b n : Option ℤ) (r : Result Interval Refusal) → told r ≡ range_of m n → m ≡ a → n ≡ b → told r ≡ range_of a b
 range-called a m b n r h p q = rw (p, q) at h
 
 pub ruleset cornered = (least-called, greatest-called, range-called)
@@ -107,7 +105,7 @@ module _ (a b c d : ℤ) where
     unfolding range_of least_of greatest_of exactly fits?
     corners-are = go (fits? w a) (fits? w b) (fits? w c) (fits? w d) ∙ rw ends-fit
       where
-        go : (p q r s : Bool) → range_of (least_of (least_of (pick p (Is a) DoesNotFit) (pick q (Is b) DoesNotFit)) (least_of (pick r (Is c) DoesNotFit) (pick s (Is d) DoesNotFit))) (greatest_of (greatest_of (pick p (Is a) DoesNotFit) (pick q (Is b) DoesNotFit)) (greatest_of (pick r (Is c) DoesNotFit) (pick s (Is d) DoesNotFit))) ≡ pick ((p && q) && (r && s)) (is (min4 a b c d ⋯ max4 a b c d)) (refused 2)
+        go : (p q r s : Bool) → range_of (least_of (least_of (pick p (Some a) None) (pick q (Some b) None)) (least_of (pick r (Some c) None) (pick s (Some d) None))) (greatest_of (greatest_of (pick p (Some a) None) (pick q (Some b) None)) (greatest_of (pick r (Some c) None) (pick s (Some d) None))) ≡ pick ((p && q) && (r && s)) (is (min4 a b c d ⋯ max4 a b c d)) (refused 2)
         go true true true true = refl
         go true true true false = refl
         go true true false s = refl
@@ -126,22 +124,22 @@ held-range z lo hi = branch (both (in-test lo (top w64)) (in-test hi (top w64)))
     none h (inl n) = out lo h.0 n
     none h (inr n) = out hi h.1 n
 
-pub range-exact : (z : Size) (lo hi m n : ℤ) (e f : Exact) (r : IntervalAnswer) → told r ≡ range_of e f → e ≡ exactly (width_of z) m → f ≡ exactly (width_of z) n → m ≡ lo → n ≡ hi → told r ≡ ranged (width_of z) lo hi
+pub range-exact : (z : Size) (lo hi m n : ℤ) (e f : Option ℤ) (r : Result Interval Refusal) → told r ≡ range_of e f → e ≡ exactly (width_of z) m → f ≡ exactly (width_of z) n → m ≡ lo → n ≡ hi → told r ≡ ranged (width_of z) lo hi
 range-exact z lo hi m n e f r h p q u v = rw (p, q, u, v) at h ∙ range-is (width_of z) lo hi
 
 -- the four corners of f, worked out at 64 bits and held to a size
-pub corners-held : (f : ℤ → ℤ → ℤ) (z : Size) (a b : Interval) (e g h i : Exact) (s t : IntervalAnswer) → told t ≡ held_range (width_of z) (told s) → told s ≡ range_of (least_of (least_of e g) (least_of h i)) (greatest_of (greatest_of e g) (greatest_of h i)) → e ≡ exactly w64 (f a.min b.min) → g ≡ exactly w64 (f a.min b.max) → h ≡ exactly w64 (f a.max b.min) → i ≡ exactly w64 (f a.max b.max) → told t ≡ ranged (width_of z) (low_corner f a b) (high_corner f a b)
+pub corners-held : (f : ℤ → ℤ → ℤ) (z : Size) (a b : Interval) (e g h i : Option ℤ) (s t : Result Interval Refusal) → told t ≡ held_range (width_of z) (told s) → told s ≡ range_of (least_of (least_of e g) (least_of h i)) (greatest_of (greatest_of e g) (greatest_of h i)) → e ≡ exactly w64 (f a.min b.min) → g ≡ exactly w64 (f a.min b.max) → h ≡ exactly w64 (f a.max b.min) → i ≡ exactly w64 (f a.max b.max) → told t ≡ ranged (width_of z) (low_corner f a b) (high_corner f a b)
 corners-held f z a b e g h i s t l k p q u v =
     let n : told s ≡ ranged w64 (low_corner f a b) (high_corner f a b) = rw (p, q, u, v) at k ∙ corners-are (f a.min b.min) (f a.min b.max) (f a.max b.min) (f a.max b.max) w64 in
     l ∙ (ap (held_range (width_of z)) n ∙ held-range z (low_corner f a b) (high_corner f a b))
 
-pub quotients-held : (z : Size) (a b : Interval) (e g h i : Exact) (s t : IntervalAnswer) → told t ≡ held_range (width_of z) (told s) → told s ≡ range_of (least_of (least_of e g) (least_of h i)) (greatest_of (greatest_of e g) (greatest_of h i)) → e ≡ exactly w64 (quot_z a.min b.min) → g ≡ exactly w64 (quot_z a.min b.max) → h ≡ exactly w64 (quot_z a.max b.min) → i ≡ exactly w64 (quot_z a.max b.max) → told t ≡ ranged (width_of z) (low_corner quot_z a b) (high_corner quot_z a b)
+pub quotients-held : (z : Size) (a b : Interval) (e g h i : Option ℤ) (s t : Result Interval Refusal) → told t ≡ held_range (width_of z) (told s) → told s ≡ range_of (least_of (least_of e g) (least_of h i)) (greatest_of (greatest_of e g) (greatest_of h i)) → e ≡ exactly w64 (quot_z a.min b.min) → g ≡ exactly w64 (quot_z a.min b.max) → h ≡ exactly w64 (quot_z a.max b.min) → i ≡ exactly w64 (quot_z a.max b.max) → told t ≡ ranged (width_of z) (low_corner quot_z a b) (high_corner quot_z a b)
 quotients-held = corners-held quot_z
 
-pub products-made : (z : Size) (a b : Interval) (e g h i : Exact) (s t r : IntervalAnswer) → told r ≡ strict (width_of z) a b (told t) → told t ≡ held_range (width_of z) (told s) → told s ≡ range_of (least_of (least_of e g) (least_of h i)) (greatest_of (greatest_of e g) (greatest_of h i)) → e ≡ exactly w64 (a.min *ℤ b.min) → g ≡ exactly w64 (a.min *ℤ b.max) → h ≡ exactly w64 (a.max *ℤ b.min) → i ≡ exactly w64 (a.max *ℤ b.max) → told r ≡ strict (width_of z) a b (ranged (width_of z) (low_corner ◌*ℤ◌ a b) (high_corner ◌*ℤ◌ a b))
+pub products-made : (z : Size) (a b : Interval) (e g h i : Option ℤ) (s t r : Result Interval Refusal) → told r ≡ strict (width_of z) a b (told t) → told t ≡ held_range (width_of z) (told s) → told s ≡ range_of (least_of (least_of e g) (least_of h i)) (greatest_of (greatest_of e g) (greatest_of h i)) → e ≡ exactly w64 (a.min *ℤ b.min) → g ≡ exactly w64 (a.min *ℤ b.max) → h ≡ exactly w64 (a.max *ℤ b.min) → i ≡ exactly w64 (a.max *ℤ b.max) → told r ≡ strict (width_of z) a b (ranged (width_of z) (low_corner ◌*ℤ◌ a b) (high_corner ◌*ℤ◌ a b))
 products-made z a b e g h i s t r m l k p q u v = rw (corners-held ◌*ℤ◌ z a b e g h i s t l k p q u v) at m
 
-pub quot-called : (a m b n : ℤ) (r : Exact) → r ≡ exactly w64 (quot_z m n) → m ≡ a → n ≡ b → r ≡ exactly w64 (quot_z a b)
+pub quot-called : (a m b n : ℤ) (r : Option ℤ) → r ≡ exactly w64 (quot_z m n) → m ≡ a → n ≡ b → r ≡ exactly w64 (quot_z a b)
 quot-called = called (λ x y. exactly w64 (quot_z x y))
 
 -- ---- the range between the ends of a least range is exact

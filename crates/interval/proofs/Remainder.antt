@@ -8,6 +8,8 @@ use lib.Pow.{pow_pos}
 use mir.Syntax.{Width, w64}
 use mir.Val.{SFits, to_z, of_z, hbits}
 use mir.Facts.{to_z-of_z}
+use Rattle.refusal.specs.declared.Refusal.{Refusal}
+use Rattle.std.specs.Prelude.{None, Option, Result, Some}
 use Rattle.whole.specs.Choice.{pick}
 use Rattle.whole.specs.Test.{◌<?◌}
 use Rattle.whole.specs.Whole.{max_ℤ}
@@ -15,31 +17,27 @@ use Rattle.whole.specs.Range.{least, greatest, clamp, fits?}
 use Rattle.whole.specs.Exact.{exactly}
 use Rattle.whole.specs.Sized.{width_of}
 use Rattle.whole.specs.declared.Size.{Size}
-use Rattle.whole.specs.declared.Exact.{Exact}
-use Rattle.whole.specs.declared.Exact.TheVariants.{Is, DoesNotFit}
 use Rattle.whole.proofs.Found.{found-fits, not_found}
 use Rattle.whole.proofs.Linear as L
 use Rattle.whole.proofs.Shapes.{lin}
 use Rattle.whole.proofs.Fits.{machine, range, low, high}
 use Rattle.whole.proofs.Decides.{branch, lt_test, no}
 use Rattle.whole.proofs.Calls.{called}
-use Rattle.interval.specs.declared.IntervalAnswer.{IntervalAnswer}
 use Rattle.interval.specs.Set.{Interval, ◌⋯◌, bottom, empty?, canonical?}
-use Rattle.refusal.specs.Answer.{Answer, is, refused}
-use Rattle.interval.specs.Answer.{told}
+use Rattle.refusal.specs.Answer.{Answer, is, refused, told}
 use Rattle.interval.specs.Mended.{strict, rem_single, rem_within}
 use Rattle.interval.proofs.Rem.{signs, one-fits}
 
 -- ---- two single numbers
-module _ (s : Size) (x y m n : ℤ) (e : Exact) (h : e ≡ exactly (width_of s) (quot_z m n)) (p : m ≡ x) (o : n ≡ y) where
+module _ (s : Size) (x y m n : ℤ) (e : Option ℤ) (h : e ≡ exactly (width_of s) (quot_z m n)) (p : m ≡ x) (o : n ≡ y) where
   asked : e ≡ exactly (width_of s) (quot_z x y)
   asked = rw (p, o) at h
 
-  pub rem-single : (q z k l : ℤ) → e ≡ Is q → z ≡ rem_z m n → k ≡ z → l ≡ z → is (k ⋯ l) ≡ rem_single (width_of s) x y
+  pub rem-single : (q z k l : ℤ) → e ≡ Some q → z ≡ rem_z m n → k ≡ z → l ≡ z → is (k ⋯ l) ≡ rem_single (width_of s) x y
   unfolding fits?
   rem-single q z k l f r u v = rw (u, v, r, p, o, found-fits (width_of s) (quot_z x y) q (sym asked ∙ f)) refl
 
-  pub rem-over : e ≡ DoesNotFit → refused 2 ≡ rem_single (width_of s) x y
+  pub rem-over : e ≡ None → refused 2 ≡ rem_single (width_of s) x y
   unfolding fits?
   rem-over f = rw (not_found (width_of s) (quot_z x y) (sym asked ∙ f)) refl
 
@@ -111,18 +109,18 @@ reach-called = called (λ x y. max_ℤ (neg_ℤ x) y -ℤ pos 1)
 pub within-called : (a : Interval) (l m h n : ℤ) (r : Interval) → r ≡ rem_within a m n → m ≡ l → n ≡ h → r ≡ rem_within a l h
 within-called a = called (rem_within a)
 
-pub single-called : (s : Size) (x m y n : ℤ) (r : IntervalAnswer) → told r ≡ rem_single (width_of s) m n → m ≡ x → n ≡ y → told r ≡ rem_single (width_of s) x y
+pub single-called : (s : Size) (x m y n : ℤ) (r : Result Interval Refusal) → told r ≡ rem_single (width_of s) m n → m ≡ x → n ≡ y → told r ≡ rem_single (width_of s) x y
 single-called s x m y n r h p q = rw (p, q) at h
 
 pub ruleset remains = (reach-need, reach-read, reach-called, within-called, single-called)
 
 -- an empty divisor settles the answer, whatever was made
-pub empty-strict : (z : Size) (a b : Interval) (s t : Answer Interval) (r : IntervalAnswer) → told r ≡ strict (width_of z) a b s → empty? b ≡ true → told r ≡ strict (width_of z) a b t
+pub empty-strict : (z : Size) (a b : Interval) (s t : Answer Interval) (r : Result Interval Refusal) → told r ≡ strict (width_of z) a b s → empty? b ≡ true → told r ≡ strict (width_of z) a b t
 empty-strict z a b s t r h e = h ∙ go (empty? a) (empty? b) e
   where
     go : (p q : Bool) → q ≡ true → pick (canonical? (width_of z) a && canonical? (width_of z) b) (pick (p || q) (is (bottom (width_of z))) s) (refused 1) ≡ pick (canonical? (width_of z) a && canonical? (width_of z) b) (pick (p || q) (is (bottom (width_of z))) t) (refused 1)
     go true q e = refl
     go false q e = rw e
 
-pub strict-called : (z : Size) (a b : Interval) (s r : IntervalAnswer) (t : Answer Interval) → told r ≡ strict (width_of z) a b (told s) → told s ≡ t → told r ≡ strict (width_of z) a b t
+pub strict-called : (z : Size) (a b : Interval) (s r : Result Interval Refusal) (t : Answer Interval) → told r ≡ strict (width_of z) a b (told s) → told s ≡ t → told r ≡ strict (width_of z) a b t
 strict-called z a b s r t h e = rw e at h

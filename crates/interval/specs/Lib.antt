@@ -1,5 +1,4 @@
 pub mod Set
-pub mod Answer
 pub mod Ends
 pub mod Mended
 pub mod Full

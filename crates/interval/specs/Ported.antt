@@ -1,20 +1,16 @@
 -- The ported operations, by the Rust's text: 64-bit, and a panic is a refusal by 2. (join, narrow and the logic stand in Mended, over the width.)
-use Rattle.std.specs.Prelude.{Bool, ◌&&◌, ◌||◌, ℤ, pos, negsuc, neg_ℤ, nat_abs, ◌+ℤ◌, ◌-ℤ◌, ◌*ℤ◌}
+use Rattle.std.specs.declared.cmp.Ordering.{Ordering}
+use Rattle.std.specs.declared.cmp.Ordering.TheVariants.{Equal, Greater, Less}
+use Rattle.std.specs.Prelude.{Bool, ◌&&◌, ◌||◌, ℤ, pos, negsuc, neg_ℤ, nat_abs, ◌+ℤ◌, ◌-ℤ◌, ◌*ℤ◌, None, Option, Some}
 use Rattle.std.specs.Int.{w64}
 use Rattle.whole.specs.Choice.{pick}
 use Rattle.whole.specs.Test.{◌≤?◌, ◌<?◌, ◌≟◌}
 use Rattle.whole.specs.Whole.{min_ℤ, max_ℤ, min4, max4}
 use Rattle.whole.specs.Range.{least, greatest, clamp}
 use Rattle.whole.specs.Exact.{exactly}
-use Rattle.whole.specs.declared.Exact.{Exact}
-use Rattle.whole.specs.declared.Exact.TheVariants.{Is, DoesNotFit}
-use Rattle.whole.specs.declared.Order.{Order}
-use Rattle.whole.specs.declared.Order.TheVariants.{Less, Equal, Greater, None}
 use Rattle.sign.specs.declared.Sign.{Sign}
 use Rattle.sign.specs.declared.Sign.TheVariants.{Top, Bottom, Negative, Zero, Positive, NonNeg, NonZero, NonPos}
 use Rattle.interval.specs.declared.Pair.{Pair}
-use Rattle.interval.specs.declared.Single.{Single}
-use Rattle.interval.specs.declared.Single.TheVariants.{One, None as Many}
 use Rattle.interval.specs.Set.{Interval, ◌⋯◌, top, bottom, single, is_only, is_bottom}
 use Rattle.refusal.specs.Answer.{Answer, is, refused}
 use Rattle.interval.specs.Mended.{filled, rem_single}
@@ -44,43 +40,43 @@ sign_of a = pick (is_bottom w64 a) Bottom (pick (is_only a (pos 0)) Zero (side_s
 -- ---- comparisons of numbers
 
 -- the one number of an interval
-unfoldable pub singleton : Interval → Single
-singleton a = pick (a.min ≟ a.max) (One a.min) Many
+unfoldable pub singleton : Interval → Option ℤ
+singleton a = pick (a.min ≟ a.max) (Some a.min) None
 
-unfoldable pub same_one : Single → Single → Order
-same_one (One x) (One y) = pick (x ≟ y) Equal None
-same_one (One x) Many = None
-same_one Many s = None
+unfoldable pub same_one : Option ℤ → Option ℤ → Option Ordering
+same_one (Some x) (Some y) = pick (x ≟ y) (Some Equal) None
+same_one (Some x) None = None
+same_one None s = None
 
-unfoldable pub strict_cmp : Interval → Interval → Order
+unfoldable pub strict_cmp : Interval → Interval → Option Ordering
 strict_cmp a b =
     pick (is_bottom w64 a || is_bottom w64 b) None
-    (pick (a.max <? b.min) Less
-    (pick (b.max <? a.min) Greater (same_one (singleton a) (singleton b))))
+    (pick (a.max <? b.min) (Some Less)
+    (pick (b.max <? a.min) (Some Greater) (same_one (singleton a) (singleton b))))
 
-unfoldable pub weak_cmp : Interval → Interval → Order
+unfoldable pub weak_cmp : Interval → Interval → Option Ordering
 weak_cmp a b =
     pick (is_bottom w64 a || is_bottom w64 b) None
-    (pick (a.max ≤? b.min) Less
-    (pick (b.max ≤? a.min) Greater (same_one (singleton a) (singleton b))))
+    (pick (a.max ≤? b.min) (Some Less)
+    (pick (b.max ≤? a.min) (Some Greater) (same_one (singleton a) (singleton b))))
 
-unfoldable pub equal_by : Order → Interval
-equal_by Less = single (pos 0)
-equal_by Equal = single (pos 1)
-equal_by Greater = single (pos 0)
+unfoldable pub equal_by : Option Ordering → Interval
+equal_by (Some Less) = single (pos 0)
+equal_by (Some Equal) = single (pos 1)
+equal_by (Some Greater) = single (pos 0)
 equal_by None = pos 0 ⋯ pos 1
 
 -- as 001 reads the weak order for <= and >=
-unfoldable pub le_by : Order → Interval
-le_by Less = single (pos 1)
-le_by Equal = single (pos 1)
-le_by Greater = single (pos 0)
+unfoldable pub le_by : Option Ordering → Interval
+le_by (Some Less) = single (pos 1)
+le_by (Some Equal) = single (pos 1)
+le_by (Some Greater) = single (pos 0)
 le_by None = pos 0 ⋯ pos 1
 
-unfoldable pub ge_by : Order → Interval
-ge_by Less = single (pos 0)
-ge_by Equal = single (pos 1)
-ge_by Greater = single (pos 1)
+unfoldable pub ge_by : Option Ordering → Interval
+ge_by (Some Less) = single (pos 0)
+ge_by (Some Equal) = single (pos 1)
+ge_by (Some Greater) = single (pos 1)
 ge_by None = pos 0 ⋯ pos 1
 
 -- ---- where a comparison may hold
@@ -128,8 +124,8 @@ same_ends a b = (a.min ≟ b.min) && (a.max ≟ b.max)
 abbrev pub around : Interval → Interval → Bool
 around a b = (a.min ≤? b.min) && (b.max ≤? a.max)
 
-unfoldable pub partial_cmp : Interval → Interval → Order
-partial_cmp a b = pick (same_ends a b) Equal (pick (around a b) Greater (pick (around b a) Less None))
+unfoldable pub partial_cmp : Interval → Interval → Option Ordering
+partial_cmp a b = pick (same_ends a b) (Some Equal) (pick (around a b) (Some Greater) (pick (around b a) (Some Less) None))
 
 unfoldable pub meet : Interval → Interval → Interval
 meet a b = filled w64 (common a b)
@@ -174,18 +170,18 @@ unfoldable pub mul : Interval → Interval → Interval
 mul a b = pick (is_bottom w64 a || is_bottom w64 b) (bottom w64) (low_product a b ⋯ high_product a b)
 
 -- the greater absolute value of two ends, which may not fit
-abbrev pub largest : Interval → Exact
+abbrev pub largest : Interval → Option ℤ
 largest b = exactly w64 (max_ℤ (pos (nat_abs b.min)) (pos (nat_abs b.max)))
 
-unfoldable pub rem_by : Order → (low high : ℤ) → Interval
-rem_by Less low high = low ⋯ pos 0
-rem_by Equal low high = single (pos 0)
-rem_by Greater low high = pos 0 ⋯ high
+unfoldable pub rem_by : Option Ordering → (low high : ℤ) → Interval
+rem_by (Some Less) low high = low ⋯ pos 0
+rem_by (Some Equal) low high = single (pos 0)
+rem_by (Some Greater) low high = pos 0 ⋯ high
 rem_by None low high = low ⋯ high
 
-unfoldable pub rem_large : Interval → Exact → Answer Interval
-rem_large a (Is m) = is (rem_by (weak_cmp a (single (pos 0))) (neg_ℤ m +ℤ pos 1) (m -ℤ pos 1))
-rem_large a DoesNotFit = refused 2
+unfoldable pub rem_large : Interval → Option ℤ → Answer Interval
+rem_large a (Some m) = is (rem_by (weak_cmp a (single (pos 0))) (neg_ℤ m +ℤ pos 1) (m -ℤ pos 1))
+rem_large a None = refused 2
 
 unfoldable pub rem : Interval → Interval → Answer Interval
 rem a b =

@@ -1,10 +1,10 @@
 -- What document 01 says of the ported operations: 64-bit, and set statements of canonical intervals.
-use Rattle.std.specs.Prelude.{◌≡◌, ◌≢◌, ◌⊎◌, ◌↔◌, true, ℤ, ◌*ℤ◌}
+use Rattle.std.specs.declared.cmp.Ordering.{Ordering}
+use Rattle.std.specs.declared.cmp.Ordering.TheVariants.{Equal, Greater, Less}
+use Rattle.std.specs.Prelude.{◌≡◌, ◌≢◌, ◌⊎◌, ◌↔◌, true, ℤ, ◌*ℤ◌, None, Option, Some}
 use Rattle.std.specs.Int.{w64}
 use Rattle.std.proofs.Common.{SFits}
 use Rattle.whole.specs.Range.{least, greatest}
-use Rattle.whole.specs.declared.Order.{Order}
-use Rattle.whole.specs.declared.Order.TheVariants.{Less, Equal, Greater, None}
 use Rattle.refusal.specs.Answer.{Answer, is, refused}
 use Rattle.sign.specs.declared.Sign.{Sign}
 use Rattle.sign.specs.Set.{Side, side_of, ◌has◌}
@@ -20,10 +20,10 @@ pub record Join (a b v : Interval) : Type 0 where
   pub least-one : (u : Interval) → a ⊆ u → b ⊆ u → v ⊆ u
 
 -- the order is inclusion
-pub data Compared (a b : Interval) : Order → Type 0 where
-  equal : a ≡ b → Compared a b Equal
-  less : a ⊆ b → (b ⊆ a → ⊥) → Compared a b Less
-  greater : b ⊆ a → (a ⊆ b → ⊥) → Compared a b Greater
+pub data Compared (a b : Interval) : Option Ordering → Type 0 where
+  equal : a ≡ b → Compared a b (Some Equal)
+  less : a ⊆ b → (b ⊆ a → ⊥) → Compared a b (Some Less)
+  greater : b ⊆ a → (a ⊆ b → ⊥) → Compared a b (Some Greater)
   neither : (a ⊆ b → ⊥) → (b ⊆ a → ⊥) → Compared a b None
 
 -- ---- where a comparison may hold: the numbers of each side that have a partner on the other

@@ -1,57 +1,37 @@
 // Intervals: the whole numbers from min to max. Bottom, which stands for none, is [MAX, MIN].
 #![tactic(auto)]
 
-ghost use Rattle.std.specs.Prelude.{◌≡◌, ◌&&◌};
+ghost use Rattle.refusal.specs.Answer.{told};
+ghost use Rattle.std.specs.Prelude.{◌≡◌, ◌&&◌, Ok, Some};
 ghost use Rattle.std.specs.Int.{w64};
 ghost use Rattle.whole.specs.Choice.{pick};
 ghost use Rattle.whole.specs.Test.{◌≟◌};
 ghost use Rattle.whole.specs.Range.{least, greatest};
 ghost use Rattle.whole.specs.Sized.{width_of};
 ghost use Rattle.interval.specs.Set.{◌⋯◌, ◌∈?◌, single, is_only, is_bottom, empty?};
-ghost use Rattle.interval.specs.Answer.{told};
 ghost use Rattle.interval.specs.Mended.{filled, narrowed, rem_single, verdict};
 ghost use Rattle.interval.specs.Ends.{greatest_of};
 ghost use Rattle.interval.specs.Ported.{singleton, of_sign, side_sign, sign_of};
 
 use refusal::Refusal;
 use sign::Sign;
-use whole::{Exact, MAX, MIN, Size, max_of, remainder};
+use whole::{MAX, MIN, Size, max_of, remainder};
 
 pub mod ported; // ported.rt: the Rust's operations, a panic as a refusal
-pub mod sized; // sized.rt: the twins that are right, at a size of numbers
-pub mod mended; // mended.rt: those at 64 bits
+pub mod mended; // mended.rt: the twins that are right, at a size of numbers
 
 // Canonical: min at most max, or bottom. Every pair is in the domain of the ported operations.
-#[derive(Clone, Copy)]
+#[derive(Clone, Copy, Debug, PartialEq, Eq)]
 pub struct Interval {
     pub min: i64,
     pub max: i64,
 }
 
-// The one number of an interval, if it has one only.
-#[derive(Clone, Copy)]
-pub enum Single {
-    One(i64),
-    None,
-}
-
-#[derive(Clone, Copy)]
-pub enum IntervalAnswer {
-    Is(Interval),
-    Refused(Refusal),
-}
-
 // Two intervals, one for each side of a comparison.
-#[derive(Clone, Copy)]
+#[derive(Clone, Copy, Debug, PartialEq, Eq)]
 pub struct Pair {
     pub left: Interval,
     pub right: Interval,
-}
-
-#[derive(Clone, Copy)]
-pub enum PairAnswer {
-    Is(Pair),
-    Refused(Refusal),
 }
 
 // The ranges of truth: both, true and false.
@@ -104,13 +84,13 @@ impl Interval {
     }
 
     // Its one number, if min is max.
-    pub fn singleton(self) -> Single
+    pub fn singleton(self) -> Option<i64>
         ensures { result ≡ singleton self }
     {
         if self.min == self.max {
-            Single::One(self.min)
+            Some(self.min)
         } else {
-            Single::None
+            None
         }
     }
 
@@ -132,7 +112,7 @@ impl Interval {
     pub fn holds(self, n: i64) -> bool
         ensures { result ≡ (n ∈? self) }
     {
-        if self.min <= n { n <= self.max } else { false }
+        self.min <= n && n <= self.max
     }
 
     // Bottom for a pair that stands for nothing.
@@ -191,16 +171,10 @@ fn verdict(every: bool, none: bool) -> Interval
 }
 
 // The greater of two numbers that fit.
-fn greatest_of(x: Exact, y: Exact) -> Exact
+fn greatest_of(x: Option<i64>, y: Option<i64>) -> Option<i64>
     ensures { result ≡ greatest_of x y }
 {
-    match x {
-        Exact::Is(a) => match y {
-            Exact::Is(b) => Exact::Is(max_of(a, b)),
-            Exact::DoesNotFit => Exact::DoesNotFit,
-        },
-        Exact::DoesNotFit => Exact::DoesNotFit,
-    }
+    Some(max_of(x?, y?))
 }
 
 // Whether both have one number only.
@@ -221,7 +195,7 @@ fn is_empty(a: Interval) -> bool
 fn filled(size: Size, a: Interval) -> Interval
     ensures { result ≡ filled (width_of size) a }
 {
-    if is_empty(a) { sized::bottom(size) } else { a }
+    if is_empty(a) { mended::bottom(size) } else { a }
 }
 
 // The new end where the previous one is the width's.
@@ -235,11 +209,8 @@ fn end_of(infinite: i64, new: i64, previous: i64) -> i64
 fn narrowed(size: Size, new: Interval, previous: Interval) -> Interval
     ensures { result ≡ narrowed (width_of size) new previous }
 {
-    if sized::is_bottom(size, previous) {
-        return sized::bottom(size);
-    }
-    if sized::is_bottom(size, new) {
-        return sized::bottom(size);
+    if mended::is_bottom(size, previous) || mended::is_bottom(size, new) {
+        return mended::bottom(size);
     }
     Interval {
         min: end_of(size.least(), new.min, previous.min),
@@ -248,14 +219,9 @@ fn narrowed(size: Size, new: Interval, previous: Interval) -> Interval
 }
 
 // The remainder of two numbers, refused where their quotient doesn't fit.
-fn single_rem(size: Size, x: i64, y: i64) -> IntervalAnswer
+fn single_rem(size: Size, x: i64, y: i64) -> Result<Interval, Refusal>
     ensures { told result ≡ rem_single (width_of size) x y }
 {
-    match size.quotient(x, y) {
-        Exact::Is(_) => {
-            let z = remainder(x, y);
-            IntervalAnswer::Is(Interval { min: z, max: z })
-        }
-        Exact::DoesNotFit => IntervalAnswer::Refused(Refusal::DoesNotFit),
-    }
+    size.quotient(x, y).ok_or(Refusal::DoesNotFit)?;
+    Ok(Interval::of_number(remainder(x, y)))
 }

@@ -1,25 +1,26 @@
 // The Rust's operations on intervals, in its order and by its names. A panic is a refusal by 2.
-ghost use Rattle.std.specs.Prelude.{◌≡◌, true, false, ◌&&◌, ◌||◌, ℤ, pos, neg_ℤ, nat_abs, ◌+ℤ◌, ◌-ℤ◌};
+ghost use Rattle.refusal.specs.Answer.{told};
+ghost use Rattle.std.specs.Prelude.{◌≡◌, true, false, ◌&&◌, ◌||◌, ℤ, pos, neg_ℤ, nat_abs, ◌+ℤ◌, ◌-ℤ◌, Ok, Some};
 ghost use Rattle.std.specs.Int.{w64};
 ghost use Rattle.whole.specs.Choice.{pick};
 ghost use Rattle.whole.specs.Test.{◌<?◌, ◌≟◌};
-ghost use Rattle.whole.specs.Whole.{max_ℤ, min4, max4};
-ghost use Rattle.whole.specs.Range.{least, greatest};
+ghost use Rattle.whole.specs.Whole.{min_ℤ, max_ℤ, min4, max4};
+ghost use Rattle.whole.specs.Range.{least, greatest, clamp};
 ghost use Rattle.whole.specs.Exact.{exactly};
 ghost use Rattle.interval.specs.Set.{◌⋯◌, single, is_only, is_bottom};
-ghost use Rattle.interval.specs.Answer.{told, pair_told};
-ghost use Rattle.interval.specs.Mended.{and_v, or_v, not_v, narrowed};
+ghost use Rattle.interval.specs.Mended.{and_v, or_v, not_v, filled, narrowed};
 ghost use Rattle.interval.specs.Mended as mended;
 ghost use Rattle.interval.specs.Ported as ported;
 
 use super::{
-    BOOL_RANGE, FALSE_RANGE, Interval, IntervalAnswer, Pair, PairAnswer, Single, TRUE_RANGE,
-    both_single, greatest_of, narrowed, single_rem, verdict,
+    BOOL_RANGE, FALSE_RANGE, Interval, Pair, TRUE_RANGE, both_single, greatest_of, narrowed,
+    single_rem, verdict,
 };
 use refusal::Refusal;
+use std::cmp::Ordering;
 use whole::{
-    Exact, MAX, MIN, Order, Size, exact_of, magnitude, max_of, max_of_four, min_of, min_of_four,
-    saturating_add, saturating_mul,
+    MAX, MIN, Size, exact_of, magnitude, max_of, max_of_four, min_of, min_of_four, saturating_add,
+    saturating_mul,
 };
 
 // ---- logic
@@ -27,13 +28,13 @@ use whole::{
 fn both_only(a: Interval, b: Interval, n: i64) -> bool
     ensures { result ≡ (is_only a n && is_only b n) }
 {
-    if a.is_only(n) { b.is_only(n) } else { false }
+    a.is_only(n) && b.is_only(n)
 }
 
 fn one_only(a: Interval, b: Interval, n: i64) -> bool
     ensures { result ≡ (is_only a n || is_only b n) }
 {
-    if a.is_only(n) { true } else { b.is_only(n) }
+    a.is_only(n) || b.is_only(n)
 }
 
 // 1 if both are 1 alone, 0 if one is 0 alone, else both.
@@ -63,49 +64,47 @@ pub fn logical_not(a: Interval) -> Interval
 fn one_bottom(a: Interval, b: Interval) -> bool
     ensures { result ≡ (is_bottom w64 a || is_bottom w64 b) }
 {
-    if a.is_bottom() { true } else { b.is_bottom() }
+    a.is_bottom() || b.is_bottom()
 }
 
-fn same_one(a: Single, b: Single) -> Order
+fn same_one(a: Option<i64>, b: Option<i64>) -> Option<Ordering>
     ensures { result ≡ ported.same_one a b }
 {
-    match a {
-        Single::One(x) => match b {
-            Single::One(y) => { if x == y { Order::Equal } else { Order::None } }
-            Single::None => Order::None,
-        },
-        Single::None => Order::None,
+    if a? == b? {
+        Some(Ordering::Equal)
+    } else {
+        None
     }
 }
 
 // Less or Greater if every pair is so, Equal for equal single numbers, else None.
-pub fn strict_cmp(a: Interval, b: Interval) -> Order
+pub fn strict_cmp(a: Interval, b: Interval) -> Option<Ordering>
     ensures { result ≡ ported.strict_cmp a b }
 {
     if one_bottom(a, b) {
-        return Order::None;
+        return None;
     }
     if a.max < b.min {
-        return Order::Less;
+        return Some(Ordering::Less);
     }
     if a.min > b.max {
-        return Order::Greater;
+        return Some(Ordering::Greater);
     }
     same_one(a.singleton(), b.singleton())
 }
 
 // As strict_cmp, but ranges that touch come first as Less, then as Greater.
-pub fn weak_cmp(a: Interval, b: Interval) -> Order
+pub fn weak_cmp(a: Interval, b: Interval) -> Option<Ordering>
     ensures { result ≡ ported.weak_cmp a b }
 {
     if one_bottom(a, b) {
-        return Order::None;
+        return None;
     }
     if a.max <= b.min {
-        return Order::Less;
+        return Some(Ordering::Less);
     }
     if a.min >= b.max {
-        return Order::Greater;
+        return Some(Ordering::Greater);
     }
     same_one(a.singleton(), b.singleton())
 }
@@ -115,10 +114,10 @@ pub fn equals(a: Interval, b: Interval) -> Interval
     ensures { result ≡ ported.equal_by (ported.strict_cmp a b) }
 {
     match strict_cmp(a, b) {
-        Order::Less => FALSE_RANGE,
-        Order::Equal => TRUE_RANGE,
-        Order::Greater => FALSE_RANGE,
-        Order::None => BOOL_RANGE,
+        Some(Ordering::Less) => FALSE_RANGE,
+        Some(Ordering::Equal) => TRUE_RANGE,
+        Some(Ordering::Greater) => FALSE_RANGE,
+        None => BOOL_RANGE,
     }
 }
 
@@ -137,90 +136,47 @@ pub fn may_equal_when(a: Interval, b: Interval) -> Interval
 fn apart(a: Interval, b: Interval) -> bool
     ensures { result ≡ ported.apart a b }
 {
-    if one_bottom(a, b) {
-        true
-    } else {
-        a.min > b.max
-    }
+    one_bottom(a, b) || a.min > b.max
 }
 
-// x - 1 and x + 1, of a number that is not the end.
-fn before(x: i64) -> i64
-    requires { (x ≟ least w64) ≡ false }
-    ensures { result ≡ x -ℤ pos 1 }
+// The numbers of a up to n, and those from n on.
+fn up_to(a: Interval, n: i64) -> Interval
+    ensures { result ≡ filled w64 (a.min ⋯ min_ℤ a.max n) }
 {
-    x - 1
-}
-
-fn after(x: i64) -> i64
-    requires { (x ≟ greatest w64) ≡ false }
-    ensures { result ≡ x +ℤ pos 1 }
-{
-    x + 1
-}
-
-fn less_left(a: Interval, b: Interval) -> Interval
-    requires { (b.max ≟ least w64) ≡ false }
-    ensures { result ≡ ported.less_left a b }
-{
-    let left = Interval {
+    let below = Interval {
         min: a.min,
-        max: min_of(a.max, before(b.max)),
+        max: min_of(a.max, n),
     };
-    left.normalize()
+    below.normalize()
 }
 
-fn less_right(a: Interval, b: Interval) -> Interval
-    requires { (a.min ≟ greatest w64) ≡ false }
-    ensures { result ≡ ported.less_right a b }
+fn from_on(a: Interval, n: i64) -> Interval
+    ensures { result ≡ filled w64 (max_ℤ n a.min ⋯ a.max) }
 {
-    let right = Interval {
-        min: max_of(after(a.min), b.min),
-        max: b.max,
+    let above = Interval {
+        min: max_of(n, a.min),
+        max: a.max,
     };
-    right.normalize()
+    above.normalize()
 }
 
 // The numbers of each side for which `<` may hold.
-pub fn maybe_less_when(a: Interval, b: Interval) -> PairAnswer
-    ensures { pair_told result ≡ ported.maybe_less_when a b }
+pub fn maybe_less_when(a: Interval, b: Interval) -> Result<Pair, Refusal>
+    ensures { told result ≡ ported.maybe_less_when a b }
 {
     if apart(a, b) {
-        return PairAnswer::Is(Pair {
+        return Ok(Pair {
             left: Interval::BOTTOM,
             right: Interval::BOTTOM,
         });
     }
-    if b.max == MIN {
-        return PairAnswer::Refused(Refusal::DoesNotFit);
+    if b.max == MIN || a.min == MAX {
+        return Err(Refusal::DoesNotFit);
     }
-    if a.min == MAX {
-        return PairAnswer::Refused(Refusal::DoesNotFit);
-    }
-    PairAnswer::Is(Pair {
-        left: less_left(a, b),
-        right: less_right(a, b),
+    Ok(Pair {
+        left: up_to(a, b.max - 1),
+        right: from_on(b, a.min + 1),
     })
-}
-
-fn le_left(a: Interval, b: Interval) -> Interval
-    ensures { result ≡ ported.le_left a b }
-{
-    let left = Interval {
-        min: a.min,
-        max: min_of(a.max, b.max),
-    };
-    left.normalize()
-}
-
-fn le_right(a: Interval, b: Interval) -> Interval
-    ensures { result ≡ ported.le_right a b }
-{
-    let right = Interval {
-        min: max_of(a.min, b.min),
-        max: b.max,
-    };
-    right.normalize()
 }
 
 // The numbers of each side for which `<=` may hold.
@@ -234,28 +190,12 @@ pub fn maybe_le_when(a: Interval, b: Interval) -> Pair
         };
     }
     Pair {
-        left: le_left(a, b),
-        right: le_right(a, b),
+        left: up_to(a, b.max),
+        right: from_on(b, a.min),
     }
 }
 
 // ---- the lattice
-
-fn same_number(x: i64, y: i64) -> bool
-    ensures { result ≡ (x ≟ y) }
-{
-    x == y
-}
-
-fn same(a: Interval, b: Interval) -> bool
-    ensures { result ≡ ported.same_ends a b }
-{
-    if same_number(a.min, b.min) {
-        same_number(a.max, b.max)
-    } else {
-        false
-    }
-}
 
 // Whether b lies between the ends of a.
 fn around(a: Interval, b: Interval) -> bool
@@ -265,19 +205,19 @@ fn around(a: Interval, b: Interval) -> bool
 }
 
 // The order: inclusion.
-pub fn partial_cmp(a: Interval, b: Interval) -> Order
+pub fn partial_cmp(a: Interval, b: Interval) -> Option<Ordering>
     ensures { result ≡ ported.partial_cmp a b }
 {
-    if same(a, b) {
-        return Order::Equal;
+    if a == b {
+        return Some(Ordering::Equal);
     }
     if around(a, b) {
-        return Order::Greater;
+        return Some(Ordering::Greater);
     }
     if around(b, a) {
-        return Order::Less;
+        return Some(Ordering::Less);
     }
-    Order::None
+    None
 }
 
 // The least interval that holds both.
@@ -290,16 +230,11 @@ pub fn join(a: Interval, b: Interval) -> Interval
     }
 }
 
-fn widen_min(new: i64, previous: i64) -> i64
-    ensures { result ≡ pick (new <? previous) (least w64) previous }
+// The end that an unstable one goes to.
+fn widened(moved: bool, infinite: i64, previous: i64) -> i64
+    ensures { result ≡ pick moved infinite previous }
 {
-    if previous > new { MIN } else { previous }
-}
-
-fn widen_max(new: i64, previous: i64) -> i64
-    ensures { result ≡ pick (previous <? new) (greatest w64) previous }
-{
-    if previous < new { MAX } else { previous }
+    if moved { infinite } else { previous }
 }
 
 // Takes unstable ends to infinity.
@@ -310,8 +245,8 @@ pub fn widen(new: Interval, previous: Interval) -> Interval
         return new;
     }
     Interval {
-        min: widen_min(new.min, previous.min),
-        max: widen_max(new.max, previous.max),
+        min: widened(new.min < previous.min, MIN, previous.min),
+        max: widened(previous.max < new.max, MAX, previous.max),
     }
 }
 
@@ -335,25 +270,12 @@ pub fn narrow(new: Interval, previous: Interval) -> Interval
 
 // ---- arithmetic
 
-fn add_min(x: i64, y: i64) -> i64
-    ensures { result ≡ ported.add_min x y }
+// The sum of two ends on one side, where an infinite one stays infinite.
+fn add_ends(infinite: i64, x: i64, y: i64) -> i64
+    ensures { result ≡ pick ((x ≟ infinite) || (y ≟ infinite)) infinite (clamp w64 (x +ℤ y)) }
 {
-    if x == MIN {
-        MIN
-    } else if y == MIN {
-        MIN
-    } else {
-        saturating_add(x, y)
-    }
-}
-
-fn add_max(x: i64, y: i64) -> i64
-    ensures { result ≡ ported.add_max x y }
-{
-    if x == MAX {
-        MAX
-    } else if y == MAX {
-        MAX
+    if x == infinite || y == infinite {
+        infinite
     } else {
         saturating_add(x, y)
     }
@@ -367,8 +289,8 @@ pub fn add(a: Interval, b: Interval) -> Interval
         return Interval::BOTTOM;
     }
     Interval {
-        min: add_min(a.min, b.min),
-        max: add_max(a.max, b.max),
+        min: add_ends(MIN, a.min, b.min),
+        max: add_ends(MAX, a.max, b.max),
     }
 }
 
@@ -386,29 +308,26 @@ fn neg_min(x: i64) -> i64
 }
 
 // The opposites; an infinite end changes its side.
-pub fn neg(a: Interval) -> IntervalAnswer
+pub fn neg(a: Interval) -> Result<Interval, Refusal>
     ensures { told result ≡ ported.neg a }
 {
     if a.is_bottom() {
-        return IntervalAnswer::Is(a);
+        return Ok(a);
     }
     if a.max == MIN {
-        return IntervalAnswer::Refused(Refusal::DoesNotFit);
+        return Err(Refusal::DoesNotFit);
     }
-    IntervalAnswer::Is(Interval {
+    Ok(Interval {
         min: neg_max(a.max),
         max: neg_min(a.min),
     })
 }
 
 // The sum with the negated right side: refused where the negation is, also beside bottom.
-pub fn sub(a: Interval, b: Interval) -> IntervalAnswer
+pub fn sub(a: Interval, b: Interval) -> Result<Interval, Refusal>
     ensures { told result ≡ ported.sub a b }
 {
-    match neg(b) {
-        IntervalAnswer::Is(c) => IntervalAnswer::Is(add(a, c)),
-        IntervalAnswer::Refused(r) => IntervalAnswer::Refused(r),
-    }
+    Ok(add(a, neg(b)?))
 }
 
 // The range of four numbers.
@@ -437,20 +356,20 @@ pub fn mul(a: Interval, b: Interval) -> Interval
 }
 
 // The greater absolute value of two ends.
-fn largest(low: i64, high: i64) -> Exact
+fn largest(low: i64, high: i64) -> Option<i64>
     ensures { result ≡ exactly w64 (max_ℤ (pos (nat_abs low)) (pos (nat_abs high))) }
 {
     greatest_of(exact_of(magnitude(low)), exact_of(magnitude(high)))
 }
 
-fn rem_by(order: Order, low: i64, high: i64) -> Interval
+fn rem_by(order: Option<Ordering>, low: i64, high: i64) -> Interval
     ensures { result ≡ ported.rem_by order low high }
 {
     match order {
-        Order::Less => Interval { min: low, max: 0 },
-        Order::Equal => FALSE_RANGE,
-        Order::Greater => Interval { min: 0, max: high },
-        Order::None => Interval {
+        Some(Ordering::Less) => Interval { min: low, max: 0 },
+        Some(Ordering::Equal) => FALSE_RANGE,
+        Some(Ordering::Greater) => Interval { min: 0, max: high },
+        None => Interval {
             min: low,
             max: high,
         },
@@ -465,27 +384,25 @@ fn rem_up_to(a: Interval, m: i64) -> Interval
     rem_by(weak_cmp(a, FALSE_RANGE), -m + 1, m - 1)
 }
 
-fn rem_large(a: Interval, b: Interval) -> IntervalAnswer
+fn rem_large(a: Interval, b: Interval) -> Result<Interval, Refusal>
     ensures { told result ≡ ported.rem_large a (ported.largest b) }
 {
-    match largest(b.min, b.max) {
-        Exact::Is(m) => IntervalAnswer::Is(rem_up_to(a, m)),
-        Exact::DoesNotFit => IntervalAnswer::Refused(Refusal::DoesNotFit),
-    }
+    let m = largest(b.min, b.max).ok_or(Refusal::DoesNotFit)?;
+    Ok(rem_up_to(a, m))
 }
 
 fn rem_nothing(a: Interval, b: Interval) -> bool
     ensures { result ≡ ((is_bottom w64 a || is_bottom w64 b) || is_only b (pos 0)) }
 {
-    if one_bottom(a, b) { true } else { b.is_only(0) }
+    one_bottom(a, b) || b.is_only(0)
 }
 
 // The remainders, by the greatest absolute value of the divisor's ends.
-pub fn rem(a: Interval, b: Interval) -> IntervalAnswer
+pub fn rem(a: Interval, b: Interval) -> Result<Interval, Refusal>
     ensures { told result ≡ ported.rem a b }
 {
     if rem_nothing(a, b) {
-        return IntervalAnswer::Is(Interval::BOTTOM);
+        return Ok(Interval::BOTTOM);
     }
     if both_single(a, b) {
         return single_rem(Size::B64, a.min, b.min);

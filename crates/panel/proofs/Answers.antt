@@ -8,18 +8,23 @@ use borrow.Author.Tests.{le-leb, lt-leb, ltb-false, leb-false}
 use lib.Dec.{leb, ltb}
 use lib.IntN.{ℤ}
 use lib.ListN.{length, take}
+use lib.Seq.{length-sets}
 use Rattle.whole.specs.Choice.{pick}
 use Rattle.sheet.specs.Got.{Got, got, refused, fine, verdict_of}
-use Rattle.sheet.specs.Step.{Step}
+use Rattle.sheet.specs.declared.step.Step.{Step}
 use Rattle.sheet.specs.Number.{read_number}
 use Rattle.sheet.specs.Sheet.{parse, steps_from, steps_in, flat, steps_of}
 use Rattle.sheet.specs.Answer as sheet
+use Rattle.refusal.specs.Answer.{done, at_byte, refused_by}
+use Rattle.refusal.specs.Count.{fault_told}
+use Rattle.refusal.specs.declared.Fault.{Fault}
+use Rattle.refusal.proofs.Claims.{fault-not-done}
 use Rattle.sheet.proofs.Parts.{steps-length, length-flat}
 use Rattle.sheet.proofs.Plans.{steps-count}
 use Rattle.sheet.proofs.Stepped.{got_of}
 use Rattle.sheet.proofs.Answered.{reads, steps-flat, stored-first}
 use Rattle.panel.specs.Run.{Rules, actions_of, suits?, run_sheet}
-use Rattle.panel.specs.Answer.{nothing, refused_by, refused_at, result_of, ran_on, running}
+use Rattle.panel.specs.Answer.{nothing, result_of, ran_on, running}
 
 -- ---- the three answers of a sheet that was read
 module _ (rules : Rules) (steps : List Step) (ins room : List ℤ) where
@@ -41,7 +46,7 @@ module _ (rules : Rules) (s : List ℕ) (ins room : List ℤ) where
   unfolding running
   runs-read steps p e = rw e refl
 
-  pub runs-refused : (n p : ℕ) → parse s ≡ refused n p → running rules s ins room ≡ nothing (refused_at n p)
+  pub runs-refused : (n p : ℕ) → parse s ≡ refused n p → running rules s ins room ≡ nothing (at_byte n p)
   unfolding running
   runs-refused n p e = rw e refl
 
@@ -66,37 +71,32 @@ pub record Listed (s : List ℕ) (room after : List ℤ) (n : ℕ) : Type 0 wher
   pub end : ℕ
   pub parsed : parse s ≡ got steps end
   pub few : n ≤ 256
+  pub long : n * 4 ≤ length after
   pub numbers : take (n * 4) after ≡ flat steps
   pub back : steps_of (take (n * 4) after) ≡ steps
 
-pub listed : (s : List ℕ) (room after : List ℤ) (n : ℕ) → sheet.done n ≡ sheet.answer (sheet.reading s) room → after ≡ sheet.content (sheet.reading s) room → Listed s room after n
+pub listed : (s : List ℕ) (room after : List ℤ) (n : ℕ) → done n ≡ sheet.answer (sheet.reading s) room → after ≡ sheet.content (sheet.reading s) room → Listed s room after n
 listed s room after n h e =
     let r = reads s room n (sym h) in
     let l : n * 4 ≡ length (flat r.steps) = omega (arith, length-flat r.steps, r.count) in
     let t : take (n * 4) after ≡ flat r.steps = rw (e ∙ r.stored, l) (stored-first room (flat r.steps) r.fits) in
-    record { steps = r.steps; end = r.end; parsed = r.parsed; few = omega (arith, parse-few s r.steps r.end r.parsed, r.count); numbers = t; back = ap steps_of t ∙ steps-flat r.steps }
+    record { steps = r.steps; end = r.end; parsed = r.parsed; few = omega (arith, parse-few s r.steps r.end r.parsed, r.count); long = rw (e ∙ r.stored, length-sets) (omega (arith, l, r.fits)); numbers = t; back = ap steps_of t ∙ steps-flat r.steps }
 
--- a refusal of reading is that of the sheet; room for 256 steps is never short
-pub read_at : (s : List ℕ) (room : List ℤ) (n p : ℕ) → sheet.refused_at n p ≡ sheet.answer (sheet.reading s) room → parse s ≡ refused n p
+-- a fault of reading is that of the sheet, at a byte; room for 256 steps is never short
+pub record Unread (s : List ℕ) (f : Fault) : Type 0 where
+  pub number : ℕ
+  pub byte : ℕ
+  pub told : fault_told f ≡ at_byte number byte
+  pub parsed : parse s ≡ refused number byte
+
+pub unread : (s : List ℕ) (room : List ℤ) (f : Fault) → 1024 ≤ length room → fault_told f ≡ sheet.answer (sheet.reading s) room → Unread s f
 unfolding sheet.reading
-read_at s room n p h = by-parse (parse s) h
+unread s room f l h = by-parse (parse s) refl h
   where
-    by-room : (xs : List Step) (q : ℕ) (t : Bool) → sheet.refused_at n p ≡ pick t (sheet.done (length xs)) (sheet.refused_by 16) → got xs q ≡ refused n p
-    by-room xs q true h = let z : ◌≡◌ {A = ℕ} 0 1 = cc in absurd (omega arith)
-    by-room xs q false h = let z : ◌≡◌ {A = ℕ} 0 1 = cc in absurd (omega arith)
+    by-room : (xs : List Step) (q : ℕ) (t : Bool) → parse s ≡ got xs q → leb (length (flat xs)) (length room) ≡ t → fault_told f ≡ pick t (done (length xs)) (refused_by 16) → Unread s f
+    by-room xs q true e k h = absurd (fault-not-done f (length xs) h)
+    by-room xs q false e k h = absurd (omega (arith, leb-false (length (flat xs)) (length room) k, length-flat xs, parse-few s xs q e))
 
-    by-parse : (g : Got (List Step)) → sheet.refused_at n p ≡ sheet.answer (sheet.plan_of g) room → g ≡ refused n p
-    by-parse (got xs q) h = by-room xs q (leb (length (flat xs)) (length room)) h
-    by-parse (refused m q) h = cc
-
-pub never-short : (s : List ℕ) (room : List ℤ) (n : ℕ) → 1024 ≤ length room → sheet.refused_by n ≡ sheet.answer (sheet.reading s) room → ⊥
-unfolding sheet.reading
-never-short s room n l h = by-parse (parse s) refl h
-  where
-    by-room : (xs : List Step) (q : ℕ) (t : Bool) → parse s ≡ got xs q → leb (length (flat xs)) (length room) ≡ t → sheet.refused_by n ≡ pick t (sheet.done (length xs)) (sheet.refused_by 16) → ⊥
-    by-room xs q true e k h = let z : ◌≡◌ {A = ℕ} 0 1 = cc in omega arith
-    by-room xs q false e k h = omega (arith, leb-false (length (flat xs)) (length room) k, length-flat xs, parse-few s xs q e)
-
-    by-parse : (g : Got (List Step)) → parse s ≡ g → sheet.refused_by n ≡ sheet.answer (sheet.plan_of g) room → ⊥
+    by-parse : (g : Got (List Step)) → parse s ≡ g → fault_told f ≡ sheet.answer (sheet.plan_of g) room → Unread s f
     by-parse (got xs q) e h = by-room xs q (leb (length (flat xs)) (length room)) e refl h
-    by-parse (refused m q) e h = let z : ◌≡◌ {A = ℕ} 0 1 = cc in omega arith
+    by-parse (refused m q) e h = record { number = m; byte = q; told = h; parsed = e }

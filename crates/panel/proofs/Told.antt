@@ -14,17 +14,17 @@ use Rattle.refusal.specs.Number.{number_of}
 use Rattle.refusal.proofs.Claims.{number-tells}
 use Rattle.whole.specs.Choice.{pick}
 use Rattle.sheet.specs.Got.{Got, got, refused}
-use Rattle.sheet.specs.Step.{Step}
+use Rattle.sheet.specs.declared.step.Step.{Step}
 use Rattle.sheet.specs.Sheet.{parse}
 use Rattle.sheet.proofs.Answered.{parse-few, stored-first}
 use Rattle.step.specs.Run.{run_op}
 use Rattle.step.specs.declared.Action.{Action}
-use Rattle.step.specs.declared.Outcome.{Outcome}
-use Rattle.step.specs.declared.Outcome.TheVariants.{Gives, Stops}
 use Rattle.panel.specs.Run.{Rules, Run, ended, stopped_at, actions_of, takes, run_step, run_on, run_from, run_sheet, suits?}
-use Rattle.panel.specs.declared.RunAnswer.{RunAnswer}
-use Rattle.panel.specs.declared.RunAnswer.TheVariants.{Ended, StoppedAt, RefusedAt, Refused}
-use Rattle.panel.specs.Answer.{run_told, ended_with, stopped, refused_at, refused_by, Result, nothing, result_of, ran_on, ran_of, running}
+use Rattle.std.specs.Prelude.{Ok, Err, Result}
+use Rattle.refusal.specs.declared.Fault.TheVariants.{AtStep, AtByte, By}
+use Rattle.refusal.specs.Answer.{done, at_step, at_byte, refused_by}
+use Rattle.refusal.specs.Count.{Counted, count_told}
+use Rattle.panel.specs.Answer.{Left, nothing, result_of, ran_on, ran_of, running}
 
 -- a run gives at most one number a step
 pub run-few : (rules : Rules) (ins env : List ℤ) (acts : List Action) → length (result_of (run_from rules ins env acts)).numbers ≤ length env + length acts
@@ -35,9 +35,9 @@ run-few rules ins env (s ∷ ss) = by-outcome (run_step rules ins env s) (λ n. 
     go : ℤ → Run
     go n = run_from rules (drop (takes s) ins) (env ++ (n ∷ [])) ss
 
-    by-outcome : (o : Outcome) → ((n : ℤ) → length (result_of (go n)).numbers ≤ length (env ++ (n ∷ [])) + length ss) → length (result_of (run_on env o go)).numbers ≤ length env + suc (length ss)
-    by-outcome (Gives n) more = omega (arith, more n, length-append env (n ∷ []))
-    by-outcome (Stops r) more = omega arith
+    by-outcome : (o : Result ℤ Refusal) → ((n : ℤ) → length (result_of (go n)).numbers ≤ length (env ++ (n ∷ [])) + length ss) → length (result_of (run_on env o go)).numbers ≤ length env + suc (length ss)
+    by-outcome (Ok n) more = omega (arith, more n, length-append env (n ∷ []))
+    by-outcome (Err r) more = omega arith
 
 pub actions-length : (xs : List Step) → length (actions_of xs) ≡ length xs
 unfolding actions_of
@@ -62,10 +62,10 @@ pub record Unsuited (s : List ℕ) (ins : List ℤ) (number : ℕ) : Type 0 wher
   pub unsuited : suits? (actions_of steps) ins ≡ false
   pub fifteen : number ≡ 15
 
-data Tells (s : List ℕ) (ins : List ℤ) : Result → Type 0 where
+data Tells (s : List ℕ) (ins : List ℤ) : Left → Type 0 where
   runs : (xs : List Step) (p : ℕ) (r : Run) → parse s ≡ got xs p → suits? (actions_of xs) ins ≡ true → run_sheet (run_op w64) ins xs ≡ r → length (result_of r).numbers ≤ 256 → Tells s ins (result_of r)
   unsuits : (xs : List Step) (p : ℕ) → parse s ≡ got xs p → suits? (actions_of xs) ins ≡ false → Tells s ins (nothing (refused_by 15))
-  unread : (n p : ℕ) → parse s ≡ refused n p → Tells s ins (nothing (refused_at n p))
+  unread : (n p : ℕ) → parse s ≡ refused n p → Tells s ins (nothing (at_byte n p))
 
 tells : (s : List ℕ) (ins room : List ℤ) → length room ≡ 256 → Tells s ins (running (run_op w64) s ins room)
 unfolding running ran_on
@@ -80,7 +80,7 @@ tells s ins room l = by-parse (parse s) refl
     by-parse (refused n p) e = unread n p e
 
 -- by what was answered; the part from 0 on is as code cuts it
-ended_of : {s : List ℕ} {ins : List ℤ} (res : Result) (room left : List ℤ) → Tells s ins res → length room ≡ 256 → left ≡ sets room 0 res.numbers → (n : ℕ) → res.told ≡ ended_with n → RanTo s ins (ended (take (n - 0) left)) (take (n - 0) left) n
+ended_of : {s : List ℕ} {ins : List ℤ} (res : Left) (room left : List ℤ) → Tells s ins res → length room ≡ 256 → left ≡ sets room 0 res.numbers → (n : ℕ) → res.told ≡ done n → RanTo s ins (ended (take (n - 0) left)) (take (n - 0) left) n
 ended_of _ room left (runs xs p (ended ns) e t r h) l f n q =
     let c : length ns ≡ n = cc in
     let d : n - 0 ≡ length ns = omega (arith, c) in
@@ -90,7 +90,7 @@ ended_of _ room left (runs xs p (stopped_at ns why) e t r h) l f n q = let z : �
 ended_of _ room left (unsuits xs p e t) l f n q = let z : ◌≡◌ {A = ℕ} 0 1 = cc in absurd (omega arith)
 ended_of _ room left (unread m p e) l f n q = let z : ◌≡◌ {A = ℕ} 0 1 = cc in absurd (omega arith)
 
-stopped-of : {s : List ℕ} {ins : List ℤ} (res : Result) (room left : List ℤ) → Tells s ins res → length room ≡ 256 → left ≡ sets room 0 res.numbers → (n : ℕ) (why : Refusal) → res.told ≡ stopped n (number_of why) → RanTo s ins (stopped_at (take (n - 0) left) why) (take (n - 0) left) n
+stopped-of : {s : List ℕ} {ins : List ℤ} (res : Left) (room left : List ℤ) → Tells s ins res → length room ≡ 256 → left ≡ sets room 0 res.numbers → (n : ℕ) (why : Refusal) → res.told ≡ at_step (number_of why) n → RanTo s ins (stopped_at (take (n - 0) left) why) (take (n - 0) left) n
 stopped-of _ room left (runs xs p (ended ns) e t r h) l f n why q = let z : ◌≡◌ {A = ℕ} 0 1 = cc in absurd (omega arith)
 stopped-of _ room left (runs xs p (stopped_at ns by) e t r h) l f n why q =
     let c : length ns ≡ n = cc in
@@ -101,7 +101,7 @@ stopped-of _ room left (runs xs p (stopped_at ns by) e t r h) l f n why q =
 stopped-of _ room left (unsuits xs p e t) l f n why q = let z : ◌≡◌ {A = ℕ} 0 1 = cc in absurd (omega arith)
 stopped-of _ room left (unread m p e) l f n why q = let z : ◌≡◌ {A = ℕ} 0 1 = cc in absurd (omega arith)
 
-refused-at-of : {s : List ℕ} {ins : List ℤ} (res : Result) → Tells s ins res → (m q : ℕ) → res.told ≡ refused_at m q → parse s ≡ refused m q
+refused-at-of : {s : List ℕ} {ins : List ℤ} (res : Left) → Tells s ins res → (m q : ℕ) → res.told ≡ at_byte m q → parse s ≡ refused m q
 refused-at-of _ (runs xs p (ended ns) e t r h) m q f = let z : ◌≡◌ {A = ℕ} 0 1 = cc in absurd (omega arith)
 refused-at-of _ (runs xs p (stopped_at ns by) e t r h) m q f = let z : ◌≡◌ {A = ℕ} 0 1 = cc in absurd (omega arith)
 refused-at-of _ (unsuits xs p e t) m q f = let z : ◌≡◌ {A = ℕ} 0 1 = cc in absurd (omega arith)
@@ -110,22 +110,22 @@ refused-at-of _ (unread n p e) m q f =
     let b : p ≡ q = cc in
     rw (← a, ← b) e
 
-refused-of : {s : List ℕ} {ins : List ℤ} (res : Result) → Tells s ins res → (m : ℕ) → res.told ≡ refused_by m → Unsuited s ins m
+refused-of : {s : List ℕ} {ins : List ℤ} (res : Left) → Tells s ins res → (m : ℕ) → res.told ≡ refused_by m → Unsuited s ins m
 refused-of _ (runs xs p (ended ns) e t r h) m f = let z : ◌≡◌ {A = ℕ} 0 1 = cc in absurd (omega arith)
 refused-of _ (runs xs p (stopped_at ns by) e t r h) m f = let z : ◌≡◌ {A = ℕ} 0 1 = cc in absurd (omega arith)
 refused-of _ (unsuits xs p e t) m f = record { steps = xs; end = p; parsed = e; unsuited = t; fifteen = cc }
 refused-of _ (unread n p e) m f = let z : ◌≡◌ {A = ℕ} 0 1 = cc in absurd (omega arith)
 
 -- of what the code answered
-module _ (s : List ℕ) (ins room left : List ℤ) (a : RunAnswer) (t : run_told a ≡ (running (run_op w64) s ins room).told) (e : left ≡ sets room 0 (running (run_op w64) s ins room).numbers) (l : length room ≡ 256) where
-  pub ended-run : (n : ℕ) → a ≡ Ended n → RanTo s ins (ended (take (n - 0) left)) (take (n - 0) left) n
-  ended-run n q = ended_of _ room left (tells s ins room l) l e n (sym t ∙ ap run_told q)
+module _ (s : List ℕ) (ins room left : List ℤ) (a : Counted) (t : count_told a ≡ (running (run_op w64) s ins room).told) (e : left ≡ sets room 0 (running (run_op w64) s ins room).numbers) (l : length room ≡ 256) where
+  pub ended-run : (n : ℕ) → a ≡ Ok n → RanTo s ins (ended (take (n - 0) left)) (take (n - 0) left) n
+  ended-run n q = ended_of _ room left (tells s ins room l) l e n (sym t ∙ ap count_told q)
 
-  pub stopped-run : (why : Refusal) (n : ℕ) → a ≡ StoppedAt why n → RanTo s ins (stopped_at (take (n - 0) left) why) (take (n - 0) left) n
-  stopped-run why n q = stopped-of _ room left (tells s ins room l) l e n why (sym t ∙ ap run_told q)
+  pub stopped-run : (why : Refusal) (n : ℕ) → a ≡ Err (AtStep why n) → RanTo s ins (stopped_at (take (n - 0) left) why) (take (n - 0) left) n
+  stopped-run why n q = stopped-of _ room left (tells s ins room l) l e n why (sym t ∙ ap count_told q)
 
-  pub unread-run : (why : Refusal) (p : ℕ) → a ≡ RefusedAt why p → parse s ≡ refused (number_of why) p
-  unread-run why p q = refused-at-of _ (tells s ins room l) (number_of why) p (sym t ∙ ap run_told q)
+  pub unread-run : (why : Refusal) (p : ℕ) → a ≡ Err (AtByte why p) → parse s ≡ refused (number_of why) p
+  unread-run why p q = refused-at-of _ (tells s ins room l) (number_of why) p (sym t ∙ ap count_told q)
 
-  pub unsuited-run : (why : Refusal) → a ≡ Refused why → Unsuited s ins (number_of why)
-  unsuited-run why q = refused-of _ (tells s ins room l) (number_of why) (sym t ∙ ap run_told q)
+  pub unsuited-run : (why : Refusal) → a ≡ Err (By why) → Unsuited s ins (number_of why)
+  unsuited-run why q = refused-of _ (tells s ins room l) (number_of why) (sym t ∙ ap count_told q)

@@ -7,52 +7,44 @@ ghost use Rattle.whole.specs.Sized.{width_of};
 ghost use Rattle.step.specs.Run.{run_op};
 ghost use Rattle.sheet.specs.Sheet.{steps_of};
 ghost use Rattle.panel.specs.Run.{run_step, takes, taken?, actions_of, suits?, run_sheet, action_at};
-ghost use Rattle.panel.specs.Answer.{run_told, ran_on, result_of, Result, RanAt, Ran};
+ghost use Rattle.refusal.specs.Count.{count_told};
+ghost use Rattle.panel.specs.Answer.{ran_on, result_of, Left, RanAt, Ran};
 
-use refusal::Refusal;
-use sheet::ReadAnswer;
-use step::{Action, Outcome};
+use refusal::{Fault, Refusal};
+use step::Action;
 use whole::Size;
-
-// What running a sheet answers.
-#[derive(Clone, Copy)]
-pub enum RunAnswer {
-    // How many steps it has: each has given its number.
-    Ended(usize),
-    // 12, 13 or 14, with the step: those before it have given their numbers.
-    StoppedAt(Refusal, usize),
-    // 5 to 11, with the place of the byte.
-    RefusedAt(Refusal, usize),
-    // 15 or 16.
-    Refused(Refusal),
-}
 
 // What step p gave, of the first k in the room; 0 past them.
 fn given(room: &[i64], k: usize, p: usize) -> i64
     ensures { result ≡ get_or (take k room.now) p (pos 0) }
 {
-    if k <= p {
-        return 0;
+    if p < k {
+        room.get(p).copied().unwrap_or(0)
+    } else {
+        0
     }
-    if room.len() <= p {
-        return 0;
-    }
-    room[p]
 }
 
 // The input at j, or 0 past the last.
 fn input_at(inputs: &[i64], j: usize) -> i64
     ensures { result ≡ get_or (drop j inputs.now) 0 (pos 0) }
 {
-    if j < inputs.len() { inputs[j] } else { 0 }
+    inputs.get(j).copied().unwrap_or(0)
 }
 
 // What a step gives, after k steps and with the inputs from j on.
-fn outcome(size: Size, act: Action, inputs: &[i64], j: usize, room: &[i64], k: usize) -> Outcome
+fn outcome(
+    size: Size,
+    act: Action,
+    inputs: &[i64],
+    j: usize,
+    room: &[i64],
+    k: usize,
+) -> Result<i64, Refusal>
     ensures { result ≡ run_step (run_op (width_of size)) (drop j inputs.now) (take k room.now) act }
 {
     match act {
-        Action::Input(_, _) => Outcome::Gives(input_at(inputs, j)),
+        Action::Input(_, _) => Ok(input_at(inputs, j)),
         Action::Does(o, p, q, r) => step::run::run(
             size,
             o,
@@ -103,76 +95,76 @@ fn suits(steps: &[i64], n: usize, inputs: &[i64]) -> bool
     requires { (n ≤ 256) × (length steps.now ≡ n * 4) }
     ensures { result ≡ suits? (actions_of (steps_of steps.now)) inputs.now }
 {
-    let mut k: usize = 0;
-    let mut j: usize = 0;
-    while k < n {
+    let mut j = 0;
+    for k in 0..n {
         let act = action_at(steps, n, k);
         if !taken(act, inputs, j) {
             return false;
         }
-        j = j + used(act);
-        k = k + 1;
+        j += used(act);
     }
     inputs.len() <= j
 }
 
-// Runs n steps, and puts their numbers into the room.
-fn run_steps(size: Size, steps: &[i64], n: usize, inputs: &[i64], room: &mut [i64]) -> RunAnswer
+// Runs n steps, and puts their numbers into the room: at 12, 13 or 14 those before the step that stops.
+fn run_steps(
+    size: Size,
+    steps: &[i64],
+    n: usize,
+    inputs: &[i64],
+    room: &mut [i64],
+) -> Result<usize, Fault>
     requires { (n ≤ 256) × (length steps.now ≡ n * 4) × (n ≤ length room.old) }
-    ensures { (run_told result ≡ (result_of (run_sheet (run_op (width_of size)) inputs.now (steps_of steps.now))).told) × (room.new ≡ sets room.old 0 (result_of (run_sheet (run_op (width_of size)) inputs.now (steps_of steps.now))).numbers) }
+    ensures { (count_told result ≡ (result_of (run_sheet (run_op (width_of size)) inputs.now (steps_of steps.now))).told) × (room.new ≡ sets room.old 0 (result_of (run_sheet (run_op (width_of size)) inputs.now (steps_of steps.now))).numbers) }
 {
-    let mut k: usize = 0;
-    let mut j: usize = 0;
-    while k < n {
+    let mut j = 0;
+    for k in 0..n {
         let act = action_at(steps, n, k);
         match outcome(size, act, inputs, j, room, k) {
-            Outcome::Gives(x) => {
+            Ok(x) => {
                 room[k] = x;
-                j = j + used(act);
-                k = k + 1;
+                j += used(act);
             }
-            Outcome::Stops(r) => {
-                return RunAnswer::StoppedAt(r, k);
+            Err(r) => {
+                return Err(Fault::AtStep(r, k));
             }
         }
     }
-    RunAnswer::Ended(k)
+    Ok(n)
 }
 
 // Runs n steps that were read: 16, then 15, then the steps.
-fn run_listed(size: Size, steps: &[i64], n: usize, inputs: &[i64], room: &mut [i64]) -> RunAnswer
+fn run_listed(
+    size: Size,
+    steps: &[i64],
+    n: usize,
+    inputs: &[i64],
+    room: &mut [i64],
+) -> Result<usize, Fault>
     requires { (n ≤ 256) × (length steps.now ≡ n * 4) }
-    ensures { (run_told result ≡ (ran_on (run_op (width_of size)) (steps_of steps.now) inputs.now room.old).told) × (room.new ≡ sets room.old 0 (ran_on (run_op (width_of size)) (steps_of steps.now) inputs.now room.old).numbers) }
+    ensures { (count_told result ≡ (ran_on (run_op (width_of size)) (steps_of steps.now) inputs.now room.old).told) × (room.new ≡ sets room.old 0 (ran_on (run_op (width_of size)) (steps_of steps.now) inputs.now room.old).numbers) }
 {
     if room.len() < n {
-        return RunAnswer::Refused(Refusal::NoRoom);
+        return Err(Fault::By(Refusal::NoRoom));
     }
     if !suits(steps, n, inputs) {
-        return RunAnswer::Refused(Refusal::InputsWrong);
+        return Err(Fault::By(Refusal::InputsWrong));
     }
     run_steps(size, steps, n, inputs, room)
 }
 
-// Runs a sheet on its inputs, by numbers of a size, and puts the number of each step into the lent room.
-pub fn run_at(size: Size, bytes: &[u8], inputs: &[i64], room: &mut [i64]) -> RunAnswer
+// Runs a sheet on its inputs, by numbers of a size, and puts the number of each step into the lent room. Answers how many
+// steps it has; a fault is 5 to 11 at a byte, 12 to 14 at a step, or 15 or 16.
+pub fn run_at(size: Size, bytes: &[u8], inputs: &[i64], room: &mut [i64]) -> Result<usize, Fault>
     ensures { RanAt (width_of size) bytes.now inputs.now room.old room.new result }
 {
     let mut steps = [0i64; 1024];
-    match sheet::read(bytes, &mut steps) {
-        ReadAnswer::Steps(n) => {
-            if 256 < n {
-                return RunAnswer::Refused(Refusal::NoRoom);
-            }
-            let e = n * 4;
-            run_listed(size, &steps[0..e], n, inputs, room)
-        }
-        ReadAnswer::RefusedAt(r, p) => RunAnswer::RefusedAt(r, p),
-        ReadAnswer::Refused(r) => RunAnswer::Refused(r),
-    }
+    let n = sheet::read(bytes, &mut steps)?;
+    run_listed(size, &steps[..n * 4], n, inputs, room)
 }
 
 // Runs a sheet at 64 bits.
-pub fn run(bytes: &[u8], inputs: &[i64], room: &mut [i64]) -> RunAnswer
+pub fn run(bytes: &[u8], inputs: &[i64], room: &mut [i64]) -> Result<usize, Fault>
     ensures { Ran bytes.now inputs.now room.old room.new result }
 {
     run_at(Size::B64, bytes, inputs, room)

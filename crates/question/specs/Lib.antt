@@ -1,3 +1,4 @@
 pub mod Taken
 pub mod Names
+pub mod Codes
 pub mod Number

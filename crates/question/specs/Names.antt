@@ -1,13 +1,11 @@
--- The names that questions are made of, and the name that two numbers of a word stand for (`word-one` of `text`: they are the word's own).
-use Rattle.std.specs.Prelude.{ℕ, Bool, ◌&&◌, List, [], ◌∷◌, eqb, get_or}
+-- The names that questions are made of, and the name that a word is.
+use Rattle.std.specs.Prelude.{ℕ, List, [], ◌∷◌, Option, Some, None}
 use Prim.Native.String.{String}
 use Rattle.whole.specs.Choice.{pick}
 use Rattle.sign.specs.declared.Sign.TheVariants as sign
-use Rattle.text.specs.Ascii.{ascii}
-use Rattle.text.specs.Word.{first_code, second_code}
-use Rattle.question.specs.Taken.{codes}
+use Rattle.question.specs.Taken.{is}
 use Rattle.question.specs.declared.names.Name.{Name}
-use Rattle.question.specs.declared.names.Name.TheVariants.{At, Congruence, Interval, Mended, Number, Sheet, Sign, Transfer, Binary, Unary, Check, Read, Run, Write, Add, Bottom, Disjoint, Div, Equals, From, Greater, GreaterOrEqual, Join, Less, LessOrEqual, LogicalAnd, LogicalEq, LogicalNot, LogicalOr, MayEqualWhen, MaybeLeWhen, MaybeLessWhen, Meet, Mul, Narrow, Neg, OfInterval, OfNumber, OfSign, PartialCmp, Rem, Singleton, Smaller, StrictCmp, Sub, Top, WeakCmp, Widen, True, False, Signed, Unknown}
+use Rattle.question.specs.declared.names.Name.TheVariants.{At, Congruence, Interval, Mended, Number, Sheet, Sign, Transfer, Binary, Unary, Check, Read, Run, Write, Add, Bottom, Disjoint, Div, Equals, From, Greater, GreaterOrEqual, Join, Less, LessOrEqual, LogicalAnd, LogicalEq, LogicalNot, LogicalOr, MayEqualWhen, MaybeLeWhen, MaybeLessWhen, Meet, Mul, Narrow, Neg, OfInterval, OfNumber, OfSign, PartialCmp, Rem, Singleton, Smaller, StrictCmp, Sub, Top, WeakCmp, Widen, True, False, Signed}
 
 pub record Row : Type 0 where
   pub text : String
@@ -78,35 +76,10 @@ rows =
     row "NonPos" (Signed sign.NonPos) ∷
     []
 
-unfoldable pub name_in : List Row → ℕ → ℕ → Name
-name_in [] first second = Unknown
-name_in (r ∷ rs) first second = pick (codes r.text first second) r.value (name_in rs first second)
+-- the name of the first row that has the word for its text
+unfoldable pub name_in : List Row → List ℕ → Option Name
+name_in [] w = None
+name_in (r ∷ rs) w = pick (is r.text w) (Some r.value) (name_in rs w)
 
-unfoldable pub name_of : ℕ → ℕ → Name
+unfoldable pub name_of : List ℕ → Option Name
 name_of = name_in rows
-
--- the columns of the table
-unfoldable pub firsts_of : List Row → List ℕ
-firsts_of [] = []
-firsts_of (r ∷ rs) = first_code (ascii r.text) ∷ firsts_of rs
-
-unfoldable pub seconds_of : List Row → List ℕ
-seconds_of [] = []
-seconds_of (r ∷ rs) = second_code (ascii r.text) ∷ seconds_of rs
-
-unfoldable pub values_of : List Row → List Name
-values_of [] = []
-values_of (r ∷ rs) = r.value ∷ values_of rs
-
-unfoldable pub firsts : List ℕ
-firsts = firsts_of rows
-
-unfoldable pub seconds : List ℕ
-seconds = seconds_of rows
-
-unfoldable pub values : List Name
-values = values_of rows
-
--- whether these are the numbers of the i-th name
-unfoldable pub has_codes : (i first second : ℕ) → Bool
-has_codes i first second = eqb second (get_or seconds i 0) && eqb first (get_or firsts i 0)

@@ -1,158 +1,103 @@
 // The families `congruence` and `mended congruence`: a congruence is its constant and its modulus.
-use crate::answer::{Answer, order_told, spacing_single, spacing_told, truth_told};
-use crate::names::Name;
-use crate::take::Operands;
-use congruence::{Congruence, ported, sized};
+use crate::answer::Answer;
+use crate::answer::NotAnswered::{self, NotUnderstood};
+use crate::names::{Name, name_at};
+use crate::take::{number, operands};
+use congruence::{Congruence, mended, ported};
 use whole::Size;
 
-fn of_none(op: Name) -> Answer {
+pub(crate) fn of_numbers(constant: i64, modulus: i64) -> Congruence {
+    Congruence { constant, modulus }
+}
+
+// Not one with that of intervals: what they answer differs.
+fn of_none(op: Name) -> Result<Answer, NotAnswered> {
     match op {
-        Name::Top => Answer::Spacing(Congruence::TOP),
-        Name::Bottom => Answer::Spacing(Congruence::BOTTOM),
-        _ => Answer::NotUnderstood,
+        Name::Top => Ok(Answer::Spacing(Congruence::TOP)),
+        Name::Bottom => Ok(Answer::Spacing(Congruence::BOTTOM)),
+        _ => Err(NotUnderstood),
     }
 }
 
-fn of_one(op: Name, c: i64, m: i64) -> Answer {
-    let x = Congruence {
-        constant: c,
-        modulus: m,
-    };
+fn of_one(op: Name, x: Congruence) -> Result<Answer, NotAnswered> {
     match op {
-        Name::From => spacing_told(Congruence::from(c, m)),
-        Name::Singleton => spacing_single(ported::singleton(x)),
-        Name::LogicalNot => spacing_told(ported::logical_not(x)),
-        Name::Neg => spacing_told(ported::neg(x)),
-        _ => Answer::NotUnderstood,
+        Name::From => Ok(Answer::Spacing(Congruence::from(x.constant, x.modulus)?)),
+        Name::Singleton => Ok(Answer::Number(ported::singleton(x)?)),
+        Name::LogicalNot => Ok(Answer::Spacing(ported::logical_not(x)?)),
+        Name::Neg => Ok(Answer::Spacing(ported::neg(x)?)),
+        _ => Err(NotUnderstood),
     }
 }
 
-// Few arms a function: what a proof has to carry grows with their square.
-fn of_two(op: Name, x: Congruence, y: Congruence) -> Answer {
+// A match on the names: what the operations take and answer differs, so that a table of them is no plainer.
+fn of_two(op: Name, x: Congruence, y: Congruence) -> Result<Answer, NotAnswered> {
     match op {
-        Name::Join => spacing_told(ported::join(x, y)),
-        Name::Meet => spacing_told(ported::meet(x, y)),
-        Name::PartialCmp => order_told(ported::partial_cmp(x, y)),
-        Name::Widen => spacing_told(ported::widen(x, y)),
-        Name::Narrow => spacing_told(ported::narrow(x, y)),
-        _ => arithmetic(op, x, y),
+        Name::Join => Ok(Answer::Spacing(ported::join(x, y)?)),
+        Name::Meet => Ok(Answer::Spacing(ported::meet(x, y)?)),
+        Name::PartialCmp => Ok(Answer::Order(ported::partial_cmp(x, y)?)),
+        Name::Widen => Ok(Answer::Spacing(ported::widen(x, y)?)),
+        Name::Narrow => Ok(Answer::Spacing(ported::narrow(x, y)?)),
+        Name::Add => Ok(Answer::Spacing(ported::add(x, y)?)),
+        Name::Sub => Ok(Answer::Spacing(ported::sub(x, y)?)),
+        Name::Mul => Ok(Answer::Spacing(ported::mul(x, y)?)),
+        Name::Div => Ok(Answer::Spacing(ported::div(x, y)?)),
+        Name::Disjoint => Ok(Answer::Truth(ported::disjoint(x, y)?)),
+        Name::Equals => Ok(Answer::Spacing(ported::equals(x, y)?)),
+        Name::LogicalAnd => Ok(Answer::Spacing(ported::logical_and(x, y)?)),
+        Name::LogicalOr => Ok(Answer::Spacing(ported::logical_or(x, y)?)),
+        Name::StrictCmp => Ok(Answer::Order(ported::strict_cmp(x, y)?)),
+        _ => Err(NotUnderstood),
     }
-}
-
-fn arithmetic(op: Name, x: Congruence, y: Congruence) -> Answer {
-    match op {
-        Name::Add => spacing_told(ported::add(x, y)),
-        Name::Sub => spacing_told(ported::sub(x, y)),
-        Name::Mul => spacing_told(ported::mul(x, y)),
-        Name::Div => spacing_told(ported::div(x, y)),
-        _ => logic(op, x, y),
-    }
-}
-
-fn logic(op: Name, x: Congruence, y: Congruence) -> Answer {
-    match op {
-        Name::Disjoint => truth_told(ported::disjoint(x, y)),
-        Name::Equals => spacing_told(ported::equals(x, y)),
-        Name::LogicalAnd => spacing_told(ported::logical_and(x, y)),
-        Name::LogicalOr => spacing_told(ported::logical_or(x, y)),
-        Name::StrictCmp => order_told(ported::strict_cmp(x, y)),
-        _ => Answer::NotUnderstood,
-    }
-}
-
-fn paired(op: Name, c: i64, m: i64, d: i64, n: i64) -> Answer {
-    let x = Congruence {
-        constant: c,
-        modulus: m,
-    };
-    of_two(
-        op,
-        x,
-        Congruence {
-            constant: d,
-            modulus: n,
-        },
-    )
 }
 
 // The answer to what stands after the family's name.
-pub(crate) fn answer(line: &[u8], at: usize) -> Answer {
-    let w = crate::take::name(line, at);
-    let next = w.next;
-    let op = crate::names::named(w);
-    match crate::take::up_to_four(line, next) {
-        Operands::None => of_none(op),
-        Operands::Two(c, m) => of_one(op, c, m),
-        Operands::Four(c, m, d, n) => paired(op, c, m, d, n),
-        _ => Answer::NotUnderstood,
+pub(crate) fn answer(line: &[u8], at: usize) -> Result<Answer, NotAnswered> {
+    let (op, next) = name_at(line, at).ok_or(NotUnderstood)?;
+    let mut room = [0; 4];
+    let n = operands(line, next, &mut room, number).ok_or(NotUnderstood)?;
+    match &room[..n] {
+        [] => of_none(op),
+        [c, m] => of_one(op, of_numbers(*c, *m)),
+        [c, m, d, n] => of_two(op, of_numbers(*c, *m), of_numbers(*d, *n)),
+        _ => Err(NotUnderstood),
     }
 }
 
-fn mended_one(size: Size, op: Name, x: Congruence) -> Answer {
+fn mended_one(size: Size, op: Name, x: Congruence) -> Result<Answer, NotAnswered> {
     match op {
-        Name::Neg => spacing_told(sized::neg(size, x)),
-        _ => Answer::NotUnderstood,
+        Name::Neg => Ok(Answer::Spacing(mended::neg(size, x)?)),
+        _ => Err(NotUnderstood),
     }
 }
 
-fn mended_two(size: Size, op: Name, x: Congruence, y: Congruence) -> Answer {
+fn mended_two(size: Size, op: Name, x: Congruence, y: Congruence) -> Result<Answer, NotAnswered> {
     match op {
-        Name::Join => spacing_told(sized::join(size, x, y)),
-        Name::Meet => spacing_told(sized::meet(size, x, y)),
-        Name::PartialCmp => order_told(sized::partial_cmp(size, x, y)),
-        Name::Widen => spacing_told(sized::widen(size, x, y)),
-        Name::Disjoint => truth_told(sized::disjoint(size, x, y)),
-        _ => mended_arithmetic(size, op, x, y),
-    }
-}
-
-fn mended_arithmetic(size: Size, op: Name, x: Congruence, y: Congruence) -> Answer {
-    match op {
-        Name::Add => spacing_told(sized::add(size, x, y)),
-        Name::Sub => spacing_told(sized::sub(size, x, y)),
-        Name::Mul => spacing_told(sized::mul(size, x, y)),
-        Name::Div => spacing_told(sized::div(size, x, y)),
-        _ => compared(size, op, x, y),
-    }
-}
-
-fn compared(size: Size, op: Name, x: Congruence, y: Congruence) -> Answer {
-    match op {
-        Name::Equals => spacing_told(sized::equals(size, x, y)),
-        Name::Less => spacing_told(sized::less(size, x, y)),
-        Name::Greater => spacing_told(sized::greater(size, x, y)),
-        Name::LessOrEqual => spacing_told(sized::less_or_equal(size, x, y)),
-        Name::GreaterOrEqual => spacing_told(sized::greater_or_equal(size, x, y)),
-        _ => Answer::NotUnderstood,
+        Name::Join => Ok(Answer::Spacing(mended::join(size, x, y)?)),
+        Name::Meet => Ok(Answer::Spacing(mended::meet(size, x, y)?)),
+        Name::PartialCmp => Ok(Answer::Order(mended::partial_cmp(size, x, y)?)),
+        Name::Widen => Ok(Answer::Spacing(mended::widen(size, x, y)?)),
+        Name::Disjoint => Ok(Answer::Truth(mended::disjoint(size, x, y)?)),
+        Name::Add => Ok(Answer::Spacing(mended::add(size, x, y)?)),
+        Name::Sub => Ok(Answer::Spacing(mended::sub(size, x, y)?)),
+        Name::Mul => Ok(Answer::Spacing(mended::mul(size, x, y)?)),
+        Name::Div => Ok(Answer::Spacing(mended::div(size, x, y)?)),
+        Name::Equals => Ok(Answer::Spacing(mended::equals(size, x, y)?)),
+        Name::Less => Ok(Answer::Spacing(mended::less(size, x, y)?)),
+        Name::Greater => Ok(Answer::Spacing(mended::greater(size, x, y)?)),
+        Name::LessOrEqual => Ok(Answer::Spacing(mended::less_or_equal(size, x, y)?)),
+        Name::GreaterOrEqual => Ok(Answer::Spacing(mended::greater_or_equal(size, x, y)?)),
+        _ => Err(NotUnderstood),
     }
 }
 
 // The answer to what stands after `mended congruence`, at a size of numbers.
-pub(crate) fn mended_answer(line: &[u8], at: usize, size: Size) -> Answer {
-    let w = crate::take::name(line, at);
-    let next = w.next;
-    let op = crate::names::named(w);
-    match crate::take::up_to_four(line, next) {
-        Operands::Two(c, m) => mended_one(
-            size,
-            op,
-            Congruence {
-                constant: c,
-                modulus: m,
-            },
-        ),
-        Operands::Four(c, m, d, n) => mended_two(
-            size,
-            op,
-            Congruence {
-                constant: c,
-                modulus: m,
-            },
-            Congruence {
-                constant: d,
-                modulus: n,
-            },
-        ),
-        _ => Answer::NotUnderstood,
+pub(crate) fn mended_answer(line: &[u8], at: usize, size: Size) -> Result<Answer, NotAnswered> {
+    let (op, next) = name_at(line, at).ok_or(NotUnderstood)?;
+    let mut room = [0; 4];
+    let n = operands(line, next, &mut room, number).ok_or(NotUnderstood)?;
+    match &room[..n] {
+        [c, m] => mended_one(size, op, of_numbers(*c, *m)),
+        [c, m, d, n] => mended_two(size, op, of_numbers(*c, *m), of_numbers(*d, *n)),
+        _ => Err(NotUnderstood),
     }
 }

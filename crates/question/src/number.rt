@@ -1,51 +1,29 @@
 // The family `number`: the common divisor and the common multiple of two numbers.
 ghost use Rattle.std.specs.Prelude.{◌≡◌};
-ghost use Rattle.whole.specs.Divides as divides;
-ghost use Rattle.question.specs.Taken.{two_after};
-ghost use Rattle.question.specs.Number.{of_two, number_answer};
+ghost use Rattle.question.specs.Number.{exact_answer, number_answer};
 
-use crate::answer::{Answer, exact_told};
-use crate::take::{Pair, two};
+use crate::answer::Answer;
+use crate::answer::NotAnswered::{self, NotUnderstood};
+use crate::take::{name, two};
+use refusal::Refusal;
 
-fn gcd(operands: Pair) -> Answer
-    ensures { result ≡ of_two divides.gcd operands }
+// A number that fits.
+fn exact(n: Option<i64>) -> Result<Answer, NotAnswered>
+    ensures { result ≡ exact_answer n }
 {
-    match operands {
-        Pair::Are(a, b) => exact_told(whole::gcd(a, b)),
-        Pair::Not => Answer::NotUnderstood,
-    }
+    let fits = n.ok_or(Refusal::DoesNotFit)?;
+    Ok(Answer::Number(Some(fits)))
 }
-
-fn lcm(operands: Pair) -> Answer
-    ensures { result ≡ of_two divides.lcm operands }
-{
-    match operands {
-        Pair::Are(a, b) => exact_told(whole::lcm(a, b)),
-        Pair::Not => Answer::NotUnderstood,
-    }
-}
-
-// The operations' names, as text::word has them: a name of at most eight bytes has no second number.
-const GCD: u64 = 0x676364;
-
-const LCM: u64 = 0x6c636d;
-
-const SHORT: u64 = 0;
 
 // The answer to what stands after the family's name.
-pub fn answer(line: &[u8], at: usize) -> Answer
+pub fn answer(line: &[u8], at: usize) -> Result<Answer, NotAnswered>
     ensures { result ≡ number_answer line.now at }
 {
-    let op = crate::take::name(line, at);
-    let first = op.first;
-    let second = op.second;
-    let next = op.next;
-    match second {
-        SHORT => match first {
-            GCD => gcd(two(line, next)),
-            LCM => lcm(two(line, next)),
-            _ => Answer::NotUnderstood,
-        },
-        _ => Answer::NotUnderstood,
+    let (op, next) = name(line, at);
+    let (a, b) = two(line, next).ok_or(NotUnderstood)?;
+    match op {
+        b"gcd" => exact(whole::gcd(a, b)),
+        b"lcm" => exact(whole::lcm(a, b)),
+        _ => Err(NotUnderstood),
     }
 }

@@ -1,94 +1,46 @@
 // The family `transfer`: what an operator of a sheet does to intervals or congruences, by the two analyses.
-use crate::answer::{Answer, interval_told, spacing_told};
-use crate::names::{Name, named};
-use crate::take::Operands;
-use congruence::Congruence;
-use interval::Interval;
-use text::decimal::Got;
-use whole::Size;
+use crate::answer::NotAnswered::{self, NotUnderstood};
+use crate::answer::{Answer, range};
+use crate::congruences::of_numbers;
+use crate::intervals::of_ends;
+use crate::names::{Name, name_at};
+use crate::take::{number, operands};
 
-// An operator's number, and four or two numbers to work on.
-#[derive(Clone, Copy)]
-enum Asked {
-    Binary(i64, i64, i64, i64, i64),
-    Unary(i64, i64, i64),
-    Not,
-}
-
-// What is asked by a shape, an operator and its operands.
-fn by_shape(shape: Name, op: i64, operands: Operands) -> Asked {
-    match operands {
-        Operands::Two(a, b) => match shape {
-            Name::Unary => Asked::Unary(op, a, b),
-            _ => Asked::Not,
-        },
-        Operands::Four(a, b, c, d) => match shape {
-            Name::Binary => Asked::Binary(op, a, b, c, d),
-            _ => Asked::Not,
-        },
-        _ => Asked::Not,
-    }
-}
-
-// What stands after the domain's name.
-fn question(line: &[u8], at: usize) -> Asked {
-    let w = crate::take::name(line, at);
-    let next = w.next;
-    let shape = named(w);
-    match crate::take::number(line, next) {
-        Got::Number(op, p) => by_shape(shape, op, crate::take::up_to_four(line, p)),
-        Got::Nothing => Asked::Not,
-    }
-}
-
-fn of_intervals(question: Asked) -> Answer {
-    match question {
-        Asked::Binary(op, a, b, c, d) => interval_told(
-            Size::B64,
-            transfer::interval_binary(op, Interval { min: a, max: b }, Interval { min: c, max: d }),
-        ),
-        Asked::Unary(op, a, b) => {
-            interval_told(
-                Size::B64,
-                transfer::interval_unary(op, Interval { min: a, max: b }),
-            )
+fn of_intervals(shape: Name, op: i64, numbers: &[i64]) -> Result<Answer, NotAnswered> {
+    match (shape, numbers) {
+        (Name::Unary, [a, b]) => Ok(range(transfer::interval_unary(op, of_ends(*a, *b))?)),
+        (Name::Binary, [a, b, c, d]) => {
+            let (i, j) = (of_ends(*a, *b), of_ends(*c, *d));
+            Ok(range(transfer::interval_binary(op, i, j)?))
         }
-        Asked::Not => Answer::NotUnderstood,
+        _ => Err(NotUnderstood),
     }
 }
 
-fn of_congruences(question: Asked) -> Answer {
-    match question {
-        Asked::Binary(op, c, m, d, n) => spacing_told(transfer::congruence_binary(
+fn of_congruences(shape: Name, op: i64, numbers: &[i64]) -> Result<Answer, NotAnswered> {
+    match (shape, numbers) {
+        (Name::Unary, [c, m]) => Ok(Answer::Spacing(transfer::congruence_unary(
             op,
-            Congruence {
-                constant: c,
-                modulus: m,
-            },
-            Congruence {
-                constant: d,
-                modulus: n,
-            },
-        )),
-        Asked::Unary(op, c, m) => spacing_told(transfer::congruence_unary(
-            op,
-            Congruence {
-                constant: c,
-                modulus: m,
-            },
-        )),
-        Asked::Not => Answer::NotUnderstood,
+            of_numbers(*c, *m),
+        )?)),
+        (Name::Binary, [c, m, d, n]) => {
+            let (x, y) = (of_numbers(*c, *m), of_numbers(*d, *n));
+            Ok(Answer::Spacing(transfer::congruence_binary(op, x, y)?))
+        }
+        _ => Err(NotUnderstood),
     }
 }
 
-// The answer to what stands after the family's name.
-pub(crate) fn answer(line: &[u8], at: usize) -> Answer {
-    let w = crate::take::name(line, at);
-    let next = w.next;
-    let q = question(line, next);
-    match named(w) {
-        Name::Congruence => of_congruences(q),
-        Name::Interval => of_intervals(q),
-        _ => Answer::NotUnderstood,
+// The answer to what stands after the family's name: a domain, a shape, an operator's number, and four or two numbers to work on.
+pub(crate) fn answer(line: &[u8], at: usize) -> Result<Answer, NotAnswered> {
+    let (domain, p) = name_at(line, at).ok_or(NotUnderstood)?;
+    let (shape, q) = name_at(line, p).ok_or(NotUnderstood)?;
+    let (op, next) = number(line, q).ok_or(NotUnderstood)?;
+    let mut room = [0; 4];
+    let n = operands(line, next, &mut room, number).ok_or(NotUnderstood)?;
+    match domain {
+        Name::Congruence => of_congruences(shape, op, &room[..n]),
+        Name::Interval => of_intervals(shape, op, &room[..n]),
+        _ => Err(NotUnderstood),
     }
 }

@@ -3,8 +3,9 @@
 
 ghost use Rattle.std.specs.Prelude.{◌≡◌};
 ghost use Rattle.refusal.specs.Number.{number_of};
+ghost use Rattle.refusal.specs.declared.Fault.TheVariants.{By};
 
-#[derive(Clone, Copy)]
+#[derive(Clone, Copy, PartialEq, Eq, Debug)]
 pub enum Refusal {
     // 1: not in the domain, an operator outside 2 to 15, an unused field, a count that four doesn't divide.
     NotInDomain,
@@ -41,6 +42,7 @@ pub enum Refusal {
 }
 
 impl Refusal {
+    // A match and no numbered variants, which could not be exchanged as the edit two_numbers_exchanged does.
     // The number that document 01 gives the refusal.
     pub fn number(self) -> u8
         ensures { result ≡ number_of self }
@@ -63,5 +65,24 @@ impl Refusal {
             Refusal::InputsWrong => 15,
             Refusal::NoRoom => 16,
         }
+    }
+}
+
+// Why a call over a sheet is refused, and where.
+#[derive(Clone, Copy, PartialEq, Eq, Debug)]
+pub enum Fault {
+    // With the step: 1 and 7 to 10 of a list that is to be written, 12 to 14 of a run or a check.
+    AtStep(Refusal, usize),
+    // With the place of the byte: 5 to 11.
+    AtByte(Refusal, usize),
+    // With no place: 1 of a list's length, 15 and 16.
+    By(Refusal),
+}
+
+impl From<Refusal> for Fault {
+    ghost from_gives = { λ refusal fault. fault ≡ By refusal };
+
+    fn from(refusal: Refusal) -> Fault {
+        Fault::By(refusal)
     }
 }

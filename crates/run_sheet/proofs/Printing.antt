@@ -15,9 +15,10 @@ use Rattle.say.specs.Texts.{numbered, refusal_text, place_line, count_line}
 use Rattle.say.proofs.Numbered.{numbered_more}
 use Rattle.sheet.specs.Sheet.{parse}
 use Rattle.step.specs.Run.{run_op}
-use Rattle.panel.specs.declared.RunAnswer.{RunAnswer}
-use Rattle.panel.specs.declared.RunAnswer.TheVariants.{Ended, StoppedAt, RefusedAt, Refused}
-use Rattle.panel.specs.Answer.{run_told, running}
+use Rattle.std.specs.Prelude.{Ok, Err}
+use Rattle.refusal.specs.declared.Fault.TheVariants.{AtStep, AtByte, By}
+use Rattle.refusal.specs.Count.{Counted, count_told}
+use Rattle.panel.specs.Answer.{running}
 use Rattle.panel.proofs.Told.{ended-run, stopped-run, unread-run, unsuited-run}
 use Rattle.run_sheet.specs.Text.{step_line, run_text}
 
@@ -29,15 +30,15 @@ one_more ns k h =
 pub all_lines : (ns : List ℤ) (k : ℕ) → length ns ≤ k → numbered step_line 0 (take k ns) ≡ numbered step_line 0 ns
 all_lines ns k h = rw (take_all k ns h)
 
-module _ (s : List ℕ) (ins room left : List ℤ) (a : RunAnswer) (t : run_told a ≡ (running (run_op w64) s ins room).told) (e : left ≡ sets room 0 (running (run_op w64) s ins room).numbers) (l : length room ≡ 256) where
-  pub ended-text : (n : ℕ) → a ≡ Ended n → (n ≤ 256) × (length (take (n - 0) left) ≡ n) × (run_text (parse s) ins ≡ numbered step_line 0 (take (n - 0) left) ++ count_line (ascii "ended ") n)
+module _ (s : List ℕ) (ins room left : List ℤ) (a : Counted) (t : count_told a ≡ (running (run_op w64) s ins room).told) (e : left ≡ sets room 0 (running (run_op w64) s ins room).numbers) (l : length room ≡ 256) where
+  pub ended-text : (n : ℕ) → a ≡ Ok n → (n ≤ 256) × (length (take (n - 0) left) ≡ n) × (run_text (parse s) ins ≡ numbered step_line 0 (take (n - 0) left) ++ count_line (ascii "ended ") n)
   ended-text n q = let r = ended-run s ins room left a t e l n q in (r.few, r.count, rw (r.parsed, r.suited, r.ran, r.count))
 
-  pub stopped-text : (why : Refusal) (n : ℕ) → a ≡ StoppedAt why n → (n ≤ 256) × (length (take (n - 0) left) ≡ n) × (run_text (parse s) ins ≡ numbered step_line 0 (take (n - 0) left) ++ place_line (ascii "stopped at step ") n (number_of why))
+  pub stopped-text : (why : Refusal) (n : ℕ) → a ≡ Err (AtStep why n) → (n ≤ 256) × (length (take (n - 0) left) ≡ n) × (run_text (parse s) ins ≡ numbered step_line 0 (take (n - 0) left) ++ place_line (ascii "stopped at step ") n (number_of why))
   stopped-text why n q = let r = stopped-run s ins room left a t e l why n q in (r.few, r.count, rw (r.parsed, r.suited, r.ran, r.count))
 
-  pub unread-text : (why : Refusal) (p : ℕ) → a ≡ RefusedAt why p → run_text (parse s) ins ≡ place_line (ascii "refused at byte ") p (number_of why)
+  pub unread-text : (why : Refusal) (p : ℕ) → a ≡ Err (AtByte why p) → run_text (parse s) ins ≡ place_line (ascii "refused at byte ") p (number_of why)
   unread-text why p q = rw (unread-run s ins room left a t e l why p q)
 
-  pub unsuited-text : (why : Refusal) → a ≡ Refused why → run_text (parse s) ins ≡ refusal_text (number_of why) ++ (ascii "\n" ∷ [])
+  pub unsuited-text : (why : Refusal) → a ≡ Err (By why) → run_text (parse s) ins ≡ refusal_text (number_of why) ++ (ascii "\n" ∷ [])
   unsuited-text why q = let r = unsuited-run s ins room left a t e l why q in rw (r.parsed, r.unsuited, r.fifteen)

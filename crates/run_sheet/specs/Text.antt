@@ -7,7 +7,7 @@ use Rattle.text.specs.Ascii.{ascii}
 use Rattle.text.specs.Decimal.{digits, decimal}
 use Rattle.say.specs.Texts.{numbered, refusal_text, place_line, count_line}
 use Rattle.sheet.specs.Got.{Got, got, refused}
-use Rattle.sheet.specs.Step.{Step}
+use Rattle.sheet.specs.declared.step.Step.{Step}
 use Rattle.step.specs.Run.{run_op}
 use Rattle.panel.specs.Run.{Run, ended, stopped_at, actions_of, suits?, run_sheet}
 

@@ -6,78 +6,38 @@ mod printed;
 
 ghost use Rattle.std.specs.Prelude.{◌≤◌, length};
 
-use files::Contents;
 use std::env::Env;
+use std::ops::Range;
 use std::rt::Files;
-use text::decimal::Got;
 
-// A word among the arguments.
-#[derive(Clone, Copy)]
-enum Word {
-    Number(i64),
-    Name,
+// The number that a word is, or none: it is a name.
+fn number_of(word: &[u8]) -> Option<i64> {
+    let (n, e) = text::decimal::get_number(word, 0)?;
+    (e == word.len()).then_some(n)
 }
 
-fn word_of(word: &[u8]) -> Word {
-    match text::decimal::get_number(word, 0) {
-        Got::Number(n, e) => {
-            if e == word.len() {
-                return Word::Number(n);
-            }
-            Word::Name
-        }
-        Got::Nothing => Word::Name,
-    }
-}
-
-fn word_at(rt: &impl Env, i: usize) -> Word {
+fn number_at(rt: &impl Env, i: usize) -> Option<i64> {
     let mut word = [0u8; files::ARGUMENT];
     let n = files::argument(rt, i, &mut word);
-    word_of(&word[..n])
+    number_of(&word[..n])
 }
 
 fn is_name(rt: &impl Env, i: usize) -> bool {
-    match word_at(rt, i) {
-        Word::Number(_) => false,
-        Word::Name => true,
-    }
+    number_at(rt, i).is_none()
 }
 
-// The place of the first name from `from` on, or `count`.
-fn next_name(rt: &impl Env, from: usize, count: usize) -> usize
-    ensures { from ≤ result }
-{
-    let mut i = from;
-    while i < count {
-        if is_name(rt, i) {
-            return i;
-        }
-        i = i + 1;
-    }
-    i
-}
-
-// Puts the numbers from `from` on into the list, up to the first name, and answers how many there are. Those that it has no room for
-// are left out: no sheet takes as many as it has room for.
-fn take_inputs(rt: &impl Env, from: usize, count: usize, inputs: &mut [i64]) -> usize
+// Puts the numbers that the words begin with into the list, and answers how many there are. Those that it has no room for are left
+// out: no sheet takes as many as it has room for.
+fn take_inputs(rt: &impl Env, words: Range<usize>, inputs: &mut [i64]) -> usize
     ensures { result ≤ length inputs.new }
 {
-    let mut i = from;
-    let mut n: usize = 0;
-    while i < count {
-        match word_at(rt, i) {
-            Word::Number(x) => {
-                if inputs.len() <= n {
-                    return n;
-                }
-                inputs[n] = x;
-                n = n + 1;
-            }
-            Word::Name => {
-                return n;
-            }
-        }
-        i = i + 1;
+    let mut n = 0;
+    for (place, i) in inputs.iter_mut().zip(words) {
+        let Some(number) = number_at(rt, i) else {
+            break;
+        };
+        *place = number;
+        n += 1;
     }
     n
 }
@@ -88,33 +48,22 @@ fn print_run(rt: &impl Print, bytes: &[u8], inputs: &[i64]) {
     files::print(rt, &out, made);
 }
 
-// Prints the run of what was read on the numbers from `from` on.
-fn run_on(rt: &(impl Env + Print), buf: &[u8], found: Contents, from: usize, count: usize) {
-    match found {
-        Contents::Bytes(n) => {
-            let mut inputs = [0i64; 257];
-            let k = take_inputs(rt, from, count, &mut inputs);
-            if n <= buf.len() {
-                print_run(rt, &buf[0..n], &inputs[0..k]);
-            }
-        }
-        Contents::Unreadable => {}
-    }
+// Prints the run of the bytes on the numbers that the words begin with.
+fn run_on(rt: &(impl Env + Print), bytes: &[u8], words: Range<usize>) {
+    let mut inputs = [0i64; 257];
+    let n = take_inputs(rt, words, &mut inputs);
+    print_run(rt, bytes, &inputs[..n]);
 }
 
-// Runs the files from argument `first` on.
-fn run_files(
-    rt: &(impl Env + Files + Print),
-    first: usize,
-    count: usize,
-    headed: bool,
-    buf: &mut [u8],
-) {
-    let mut i = first;
-    while i < count {
-        let found = files::named(rt, i, headed, buf);
-        run_on(rt, buf, found, i + 1, count);
-        i = next_name(rt, i + 1, count);
+// Runs the files that the arguments name, each on the numbers after its name.
+fn run_files(rt: &(impl Env + Files + Print), count: usize, headed: bool, buf: &mut [u8]) {
+    for i in 1..count {
+        if !is_name(rt, i) {
+            continue;
+        }
+        if let Some(n) = files::named(rt, i, headed, buf) {
+            run_on(rt, &buf[..n], i + 1..count);
+        }
     }
 }
 
@@ -122,12 +71,10 @@ fn run_files(
 fn main(rt: HostRuntime) {
     let mut buf = [0u8; 5379];
     let count = files::argument_count(&rt);
-    let first = next_name(&rt, 1, count);
-    if first < count {
-        let headed = next_name(&rt, first + 1, count) < count;
-        run_files(&rt, first, count, headed, &mut buf);
-    } else {
-        let found = files::standard_input(&rt, &mut buf);
-        run_on(&rt, &buf, found, 1, count);
+    let names = (1..count).filter(|i| is_name(&rt, *i)).count();
+    if 0 < names {
+        run_files(&rt, count, 1 < names, &mut buf);
+    } else if let Some(n) = files::standard_input(&rt, &mut buf) {
+        run_on(&rt, &buf[..n], 1..count);
     }
 }

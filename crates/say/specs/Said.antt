@@ -2,17 +2,12 @@
 use Rattle.std.specs.Prelude.{ℕ, ◌+◌, ◌≤◌, ◌≡◌, List, [], ◌∷◌, ◌++◌, length}
 use Rattle.std.proofs.lemmas.List.Edits.{sets}
 use Rattle.whole.specs.Choice.{pick}
-use Rattle.text.specs.declared.Put.{Put}
-use Rattle.text.specs.declared.Put.TheVariants.{Next, NoRoom}
 use Rattle.text.specs.Room.{fits_at, put_bytes}
+use Rattle.say.specs.declared.Page.{Page}
 
 -- the place after a text that is put at a place
 unfoldable pub next : List ℕ → ℕ → List ℕ → ℕ
 next out at t = pick (fits_at out at t) (at + length t) at
-
-abbrev pub place_of : Put → ℕ → ℕ
-place_of (Next e) at = e
-place_of NoRoom at = at
 
 -- the output that the texts leave, and the place after them
 unfoldable pub output : List (List ℕ) → List ℕ → ℕ → List ℕ
@@ -36,6 +31,11 @@ size (t ∷ ts) = length t + size ts
 pub record Says (ts : List (List ℕ)) (out : List ℕ) (at : ℕ) (left : List ℕ) (end : ℕ) : Type 0 where
   pub leaves : left ≡ output ts out at
   pub ends : end ≡ place ts out at
+
+-- texts that are said on a page, which keeps the bytes that were lent to it
+pub record Puts (ts : List (List ℕ)) (before after : Page) : Type 0 where
+  pub says : Says ts before.bytes.now before.made after.bytes.now after.made
+  pub same : after.bytes.ghost_name ≡ before.bytes.ghost_name
 
 -- texts that stand at the start of an output, all n bytes of them, and the rest of it is kept
 pub record Prints (ts : List (List ℕ)) (out left : List ℕ) (n : ℕ) : Type 0 where

@@ -1,4 +1,4 @@
-// What the programs print: each function puts its text after `made` bytes, and answers the place after it.
+// What the programs print: each method of a page puts its text after what is made already.
 #![tactic(auto)]
 
 ghost use Rattle.std.specs.Prelude.{◌≡◌, [], ◌∷◌, ◌++◌};
@@ -11,210 +11,217 @@ ghost use Rattle.text.specs.Decimal.{decimal, digits};
 ghost use Rattle.text.specs.End.{end_text};
 ghost use Rattle.text.specs.Hex.{hex_text};
 ghost use Rattle.say.specs.Names.{order_name, sign_name};
-ghost use Rattle.say.specs.Said.{place_of, Says};
+ghost use Rattle.say.specs.Said.{Puts};
 ghost use Rattle.say.specs.Texts.{range_text, pair_text, spacing_text, spaced, refusal_text, place_text, place_line, count_line, not_understood};
 
 use congruence::Congruence;
 use interval::{Interval, Pair};
 use refusal::Refusal;
 use sign::Sign;
-use text::Put;
-use whole::{Order, Size};
+use std::cmp::Ordering;
+use whole::Size;
 
-// The place after what was put. What has no room is left out.
-fn after(p: Put, made: usize) -> usize
-    ensures { result ≡ place_of p made }
-{
-    match p {
-        Put::Next(e) => e,
-        Put::NoRoom => made,
-    }
-}
-
-pub fn word(out: &mut [u8], made: usize, w: &[u8]) -> usize
-    ensures { Says (w.now ∷ []) out.old made out.new result }
-{
-    after(text::word::put_word(out, made, w), made)
-}
-
-pub fn number(out: &mut [u8], made: usize, n: i64) -> usize
-    ensures { Says (decimal n ∷ []) out.old made out.new result }
-{
-    after(text::decimal::put_number(out, made, n), made)
-}
-
-fn after_space(out: &mut [u8], made: usize, n: i64) -> usize
-    ensures { Says (ascii " " ∷ (decimal n ∷ [])) out.old made out.new result }
-{
-    let e = word(out, made, b" ");
-    number(out, e, n)
-}
-
-// Numbers, each after a space.
-pub fn numbers(out: &mut [u8], made: usize, list: &[i64]) -> usize
-    ensures { Says (spaced list.now) out.old made out.new result }
-{
-    let mut e = made;
-    let mut i: usize = 0;
-    while i < list.len() {
-        e = after_space(out, e, list[i]);
-        i = i + 1;
-    }
-    e
-}
-
-pub fn natural(out: &mut [u8], made: usize, n: u64) -> usize
-    ensures { Says (digits n ∷ []) out.old made out.new result }
-{
-    after(text::decimal::put_natural(out, made, n), made)
-}
-
-pub fn not_understood(out: &mut [u8], made: usize) -> usize
-    ensures { Says not_understood out.old made out.new result }
-{
-    word(out, made, b"not understood")
-}
-
-pub fn refused(out: &mut [u8], made: usize, why: Refusal) -> usize
-    ensures { Says (refusal_text (number_of why)) out.old made out.new result }
-{
-    let e = word(out, made, b"refused by ");
-    natural(out, e, why.number() as u64)
-}
-
-// A place and a refusal's number.
-pub fn place_by(out: &mut [u8], made: usize, place: usize, why: Refusal) -> usize
-    ensures { Says (place_text place (number_of why)) out.old made out.new result }
-{
-    let p = natural(out, made, place as u64);
-    let q = word(out, p, b" by ");
-    natural(out, q, why.number() as u64)
-}
-
-pub fn refused_at(out: &mut [u8], made: usize, place: usize, why: Refusal) -> usize
-    ensures { Says (ascii "refused at " ∷ place_text place (number_of why)) out.old made out.new result }
-{
-    let e = word(out, made, b"refused at ");
-    place_by(out, e, place, why)
-}
-
-pub fn stopped_at(out: &mut [u8], made: usize, step: usize, why: Refusal) -> usize
-    ensures { Says (ascii "stopped at " ∷ place_text step (number_of why)) out.old made out.new result }
-{
-    let e = word(out, made, b"stopped at ");
-    place_by(out, e, step, why)
-}
-
-// A line: words, a place and a refusal's number.
-pub fn place_line(out: &mut [u8], made: usize, words: &[u8], place: usize, why: Refusal) -> usize
-    ensures { Says (place_line words.now place (number_of why)) out.old made out.new result }
-{
-    let e = word(out, made, words);
-    let f = place_by(out, e, place, why);
-    word(out, f, b"\n")
-}
-
-// A line: words and a count.
-pub fn count_line(out: &mut [u8], made: usize, words: &[u8], n: usize) -> usize
-    ensures { Says (count_line words.now n) out.old made out.new result }
-{
-    let e = word(out, made, words);
-    let f = natural(out, e, n as u64);
-    word(out, f, b"\n")
-}
-
-fn range_end(out: &mut [u8], made: usize, size: Size, n: i64) -> usize
-    ensures { Says (end_text (width_of size) n ∷ []) out.old made out.new result }
-{
-    after(text::end::put_end(out, made, size, n), made)
-}
-
-fn range(out: &mut [u8], made: usize, size: Size, low: i64, high: i64) -> usize
-    ensures { Says (range_text (width_of size) low high) out.old made out.new result }
-{
-    let a = word(out, made, b"[");
-    let b = range_end(out, a, size, low);
-    let c = word(out, b, b", ");
-    let d = range_end(out, c, size, high);
-    word(out, d, b"]")
-}
-
-// A range of numbers of a width.
-pub fn interval_at(out: &mut [u8], made: usize, size: Size, i: Interval) -> usize
-    ensures { Says (range_text (width_of size) i.min i.max) out.old made out.new result }
-{
-    range(out, made, size, i.min, i.max)
-}
-
-pub fn interval(out: &mut [u8], made: usize, i: Interval) -> usize
-    ensures { Says (range_text w64 i.min i.max) out.old made out.new result }
-{
-    interval_at(out, made, Size::B64, i)
-}
-
-// Two intervals, with a space between them.
-pub fn intervals(out: &mut [u8], made: usize, p: Pair) -> usize
-    ensures { Says (pair_text p.left p.right) out.old made out.new result }
-{
-    let a = interval(out, made, p.left);
-    let b = word(out, a, b" ");
-    interval(out, b, p.right)
-}
-
-pub fn congruence(out: &mut [u8], made: usize, c: Congruence) -> usize
-    ensures { Says (spacing_text c.constant c.modulus) out.old made out.new result }
-{
-    let constant = c.constant;
-    let modulus = c.modulus;
-    let a = number(out, made, constant);
-    let b = word(out, a, b" mod ");
-    number(out, b, modulus)
-}
-
-pub fn none(out: &mut [u8], made: usize) -> usize
-    ensures { Says (ascii "None" ∷ []) out.old made out.new result }
-{
-    word(out, made, b"None")
-}
-
-pub fn order(out: &mut [u8], made: usize, o: Order) -> usize
-    ensures { Says (order_name o ∷ []) out.old made out.new result }
+fn order_name(o: Option<Ordering>) -> &'static [u8]
+    ensures { result.now ≡ order_name o }
 {
     match o {
-        Order::Less => word(out, made, b"Less"),
-        Order::Equal => word(out, made, b"Equal"),
-        Order::Greater => word(out, made, b"Greater"),
-        Order::None => word(out, made, b"None"),
+        Some(Ordering::Less) => b"Less",
+        Some(Ordering::Equal) => b"Equal",
+        Some(Ordering::Greater) => b"Greater",
+        None => b"None",
     }
 }
 
-pub fn sign(out: &mut [u8], made: usize, s: Sign) -> usize
-    ensures { Says (sign_name s ∷ []) out.old made out.new result }
+// A table of names and no Display, whose contract would not say `Says (sign_name s ∷ [])` of an output that is full.
+fn sign_name(s: Sign) -> &'static [u8]
+    ensures { result.now ≡ sign_name s }
 {
     match s {
-        Sign::Top => word(out, made, b"Top"),
-        Sign::Bottom => word(out, made, b"Bottom"),
-        Sign::Negative => word(out, made, b"Negative"),
-        Sign::Zero => word(out, made, b"Zero"),
-        Sign::Positive => word(out, made, b"Positive"),
-        Sign::NonNeg => word(out, made, b"NonNeg"),
-        Sign::NonZero => word(out, made, b"NonZero"),
-        Sign::NonPos => word(out, made, b"NonPos"),
+        Sign::Top => b"Top",
+        Sign::Bottom => b"Bottom",
+        Sign::Negative => b"Negative",
+        Sign::Zero => b"Zero",
+        Sign::Positive => b"Positive",
+        Sign::NonNeg => b"NonNeg",
+        Sign::NonZero => b"NonZero",
+        Sign::NonPos => b"NonPos",
     }
 }
 
-pub fn truth(out: &mut [u8], made: usize, t: bool) -> usize
-    ensures { Says (pick t (ascii "true") (ascii "false") ∷ []) out.old made out.new result }
-{
-    if t {
-        word(out, made, b"true")
-    } else {
-        word(out, made, b"false")
-    }
+// Lent bytes for what is printed, and how many of them are made.
+#[derive(Drop)]
+pub struct Page<'a> {
+    pub bytes: &'a mut [u8],
+    pub made: usize,
 }
 
-pub fn bytes(out: &mut [u8], made: usize, b: &[u8]) -> usize
-    ensures { Says (hex_text b.now ∷ []) out.old made out.new result }
-{
-    after(text::hex::put_hex(out, made, b), made)
+impl Page<'_> {
+    // What has no room is left out.
+    pub fn word(&mut self, w: &[u8])
+        ensures { Puts (w.now ∷ []) self.old self.new }
+    {
+        self.made = text::word::put_word(self.bytes, self.made, w).unwrap_or(self.made);
+    }
+
+    pub fn number(&mut self, n: i64)
+        ensures { Puts (decimal n ∷ []) self.old self.new }
+    {
+        self.made = text::decimal::put_number(self.bytes, self.made, n).unwrap_or(self.made);
+    }
+
+    fn after_space(&mut self, n: i64)
+        ensures { Puts (ascii " " ∷ (decimal n ∷ [])) self.old self.new }
+    {
+        self.word(b" ");
+        self.number(n);
+    }
+
+    // Numbers, each after a space.
+    pub fn numbers(&mut self, list: &[i64])
+        ensures { Puts (spaced list.now) self.old self.new }
+    {
+        for n in list {
+            self.after_space(*n);
+        }
+    }
+
+    pub fn natural(&mut self, n: u64)
+        ensures { Puts (digits n ∷ []) self.old self.new }
+    {
+        self.made = text::decimal::put_natural(self.bytes, self.made, n).unwrap_or(self.made);
+    }
+
+    pub fn not_understood(&mut self)
+        ensures { Puts not_understood self.old self.new }
+    {
+        self.word(b"not understood");
+    }
+
+    pub fn refused(&mut self, why: Refusal)
+        ensures { Puts (refusal_text (number_of why)) self.old self.new }
+    {
+        self.word(b"refused by ");
+        self.natural(why.number() as u64);
+    }
+
+    // A place and a refusal's number.
+    pub fn place_by(&mut self, place: usize, why: Refusal)
+        ensures { Puts (place_text place (number_of why)) self.old self.new }
+    {
+        self.natural(place as u64);
+        self.word(b" by ");
+        self.natural(why.number() as u64);
+    }
+
+    pub fn refused_at(&mut self, place: usize, why: Refusal)
+        ensures { Puts (ascii "refused at " ∷ place_text place (number_of why)) self.old self.new }
+    {
+        self.word(b"refused at ");
+        self.place_by(place, why);
+    }
+
+    pub fn stopped_at(&mut self, step: usize, why: Refusal)
+        ensures { Puts (ascii "stopped at " ∷ place_text step (number_of why)) self.old self.new }
+    {
+        self.word(b"stopped at ");
+        self.place_by(step, why);
+    }
+
+    // A line: words, a place and a refusal's number.
+    pub fn place_line(&mut self, words: &[u8], place: usize, why: Refusal)
+        ensures { Puts (place_line words.now place (number_of why)) self.old self.new }
+    {
+        self.word(words);
+        self.place_by(place, why);
+        self.word(b"\n");
+    }
+
+    // A line: words and a count.
+    pub fn count_line(&mut self, words: &[u8], n: usize)
+        ensures { Puts (count_line words.now n) self.old self.new }
+    {
+        self.word(words);
+        self.natural(n as u64);
+        self.word(b"\n");
+    }
+
+    fn range_end(&mut self, size: Size, n: i64)
+        ensures { Puts (end_text (width_of size) n ∷ []) self.old self.new }
+    {
+        self.made = text::end::put_end(self.bytes, self.made, size, n).unwrap_or(self.made);
+    }
+
+    fn range(&mut self, size: Size, low: i64, high: i64)
+        ensures { Puts (range_text (width_of size) low high) self.old self.new }
+    {
+        self.word(b"[");
+        self.range_end(size, low);
+        self.word(b", ");
+        self.range_end(size, high);
+        self.word(b"]");
+    }
+
+    // A range of numbers of a width.
+    pub fn interval_at(&mut self, size: Size, i: Interval)
+        ensures { Puts (range_text (width_of size) i.min i.max) self.old self.new }
+    {
+        self.range(size, i.min, i.max);
+    }
+
+    pub fn interval(&mut self, i: Interval)
+        ensures { Puts (range_text w64 i.min i.max) self.old self.new }
+    {
+        self.interval_at(Size::B64, i);
+    }
+
+    // Two intervals, with a space between them.
+    pub fn intervals(&mut self, p: Pair)
+        ensures { Puts (pair_text p.left p.right) self.old self.new }
+    {
+        self.interval(p.left);
+        self.word(b" ");
+        self.interval(p.right);
+    }
+
+    pub fn congruence(&mut self, c: Congruence)
+        ensures { Puts (spacing_text c.constant c.modulus) self.old self.new }
+    {
+        self.number(c.constant);
+        self.word(b" mod ");
+        self.number(c.modulus);
+    }
+
+    pub fn none(&mut self)
+        ensures { Puts (ascii "None" ∷ []) self.old self.new }
+    {
+        self.word(b"None");
+    }
+
+    pub fn order(&mut self, o: Option<Ordering>)
+        ensures { Puts (order_name o ∷ []) self.old self.new }
+    {
+        self.word(order_name(o));
+    }
+
+    pub fn sign(&mut self, s: Sign)
+        ensures { Puts (sign_name s ∷ []) self.old self.new }
+    {
+        self.word(sign_name(s));
+    }
+
+    pub fn truth(&mut self, t: bool)
+        ensures { Puts (pick t (ascii "true") (ascii "false") ∷ []) self.old self.new }
+    {
+        if t {
+            self.word(b"true");
+        } else {
+            self.word(b"false");
+        }
+    }
+
+    pub fn bytes(&mut self, b: &[u8])
+        ensures { Puts (hex_text b.now ∷ []) self.old self.new }
+    {
+        self.made = text::hex::put_hex(self.bytes, self.made, b).unwrap_or(self.made);
+    }
 }

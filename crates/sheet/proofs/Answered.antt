@@ -14,7 +14,8 @@ use Rattle.sheet.specs.Got.{Got, got, refused, Verdict, fine, wrong, verdict_of}
 use Rattle.sheet.specs.Number.{read_number}
 use Rattle.sheet.specs.Step.{Step}
 use Rattle.sheet.specs.Sheet.{parse, steps_fault, bytes_of, flat, steps_of, steps_from}
-use Rattle.sheet.specs.Answer.{done, refused_at, refused_by, stop, answer, content, plan_of, reading, plan_for, writing}
+use Rattle.refusal.specs.Answer.{done, at_step, at_byte, refused_by}
+use Rattle.sheet.specs.Answer.{stop, answer, content, plan_of, reading, plan_for, writing}
 use Rattle.sheet.specs.Lent.{Words}
 use Rattle.sheet.proofs.Parts.{length-flat, steps-length}
 use Rattle.sheet.proofs.Plans.{steps-count}
@@ -84,15 +85,15 @@ reads-back s room xs p e h =
     (rw (e, b), rw (e, b))
 
 -- a refusal with a place is that of the bytes
-pub refuses : (s : List ℕ) (room : List ℤ) (r p : ℕ) → answer (reading s) room ≡ refused_at r p → parse s ≡ refused r p
+pub refuses : (s : List ℕ) (room : List ℤ) (r p : ℕ) → answer (reading s) room ≡ at_byte r p → parse s ≡ refused r p
 unfolding reading
 refuses s room r p h = by-parse (parse s) refl h
   where
-    by-room : (xs : List Step) (t : Bool) → pick t (done (length xs)) (refused_by 16) ≡ refused_at r p → ⊥
+    by-room : (xs : List Step) (t : Bool) → pick t (done (length xs)) (refused_by 16) ≡ at_byte r p → ⊥
     by-room xs true g = let z : ◌≡◌ {A = ℕ} 0 1 = cc in omega arith
     by-room xs false g = let z : ◌≡◌ {A = ℕ} 0 1 = cc in omega arith
 
-    by-parse : (g : Got (List Step)) → parse s ≡ g → answer (plan_of g) room ≡ refused_at r p → parse s ≡ refused r p
+    by-parse : (g : Got (List Step)) → parse s ≡ g → answer (plan_of g) room ≡ at_byte r p → parse s ≡ refused r p
     by-parse (got xs q) e g = absurd (by-room xs (leb (length (flat xs)) (length room)) g)
     by-parse (refused m q) e g =
         let em : m ≡ r = cc in
@@ -142,7 +143,7 @@ writes l out n h = by_tests (eqb (length l % 4) 0) (ltb 256 (length l / 4)) (ste
     bs = bytes_of (steps_of l)
 
     by_tests : (t₁ t₂ : Bool) (v : Verdict) (t₃ : Bool) → eqb (length l % 4) 0 ≡ t₁ → ltb 256 (length l / 4) ≡ t₂ → steps_fault 0 (steps_of l) ≡ v → leb (length bs) (length out) ≡ t₃
-        → answer (pick t₁ (pick t₂ (stop (refused_at 10 0)) (plan_for v bs)) (stop (refused_by 1))) out ≡ done n → Writes l out n
+        → answer (pick t₁ (pick t₂ (stop (at_step 10 0)) (plan_for v bs)) (stop (refused_by 1))) out ≡ done n → Writes l out n
     by_tests true false fine true e₁ e₂ e₃ e₄ g = record {
       even = eqb-true (length l % 4) 0 e₁;
       few = omega (arith, steps-count l, ltb-false 256 (length l / 4) e₂);

@@ -8,7 +8,11 @@ use lib.ListN.{length, take}
 use lib.Seq.{sets}
 use mir.Syntax.{w64}
 use mir.Val.{SFits}
-use Rattle.refusal.proofs.Claims.{with_number, number-back}
+use Rattle.refusal.specs.Answer.{done, at_byte}
+use Rattle.refusal.specs.Count.{count_told}
+use Rattle.refusal.specs.declared.Fault.{Fault}
+use Rattle.refusal.proofs.Claims.{with_number, number-back, count-tells}
+use Rattle.std.specs.Prelude.{Result, Ok, Err}
 use Rattle.whole.specs.Test.{◌<?◌}
 use Rattle.sheet.specs.Got.{Got, got, refused}
 use Rattle.sheet.specs.Number.{read_number, groups_from}
@@ -20,13 +24,8 @@ use Rattle.sheet.specs.Sheet.{steps_from, parse, bytes_of, flat, steps_of}
 use Rattle.sheet.specs.Valid.{ValidSheet}
 use Rattle.sheet.specs.Lent.{Bytes, Words}
 use Rattle.sheet.specs.Found.{number_found}
-use Rattle.sheet.specs.Answer.{Told, done, refused_at, refused_by, answer, content, reading, writing, read_told, write_told}
-use Rattle.sheet.specs.declared.number.NumberRead.{NumberRead}
-use Rattle.sheet.specs.declared.number.NumberRead.TheVariants.{Value, Refused as NoNumber}
-use Rattle.sheet.specs.declared.ReadAnswer.{ReadAnswer}
-use Rattle.sheet.specs.declared.ReadAnswer.TheVariants.{Steps, RefusedAt, Refused}
-use Rattle.sheet.specs.declared.WriteAnswer.{WriteAnswer}
-use Rattle.sheet.specs.declared.WriteAnswer.TheVariants.{Bytes as Written, RefusedAt as UnwrittenAt, Refused as Unwritten}
+use Rattle.sheet.specs.Answer.{answer, content, reading, writing}
+use Rattle.sheet.specs.declared.number.BadByte.{BadByte}
 use Rattle.sheet.proofs.Signs.{unfold-fold, fold-unfold}
 use Rattle.sheet.proofs.Fielded.{fold-below, unfold-fits}
 use Rattle.sheet.proofs.Parts.{length-flat}
@@ -79,7 +78,7 @@ write-of-read s h room n a out fits =
     rw (taken_is s room n r) (rw (e, q.bytes) at w)
 
 -- Refused bytes are the writing of no steps.
-pub refused-is-unwritten : (s : List ℕ) (room : List ℤ) (r p : ℕ) → answer (reading s) room ≡ refused_at r p
+pub refused-is-unwritten : (s : List ℕ) (room : List ℤ) (r p : ℕ) → answer (reading s) room ≡ at_byte r p
     → (l : List ℤ) → Words l → (out : List ℕ) (n : ℕ) → answer (writing l) out ≡ done n → written l out n ≡ s → ⊥
 refused-is-unwritten s room r p a l h out n b e =
     let x = refuses s room r p a in
@@ -132,47 +131,27 @@ fourteen-read = refl
 
 -- ---- answers are determined
 
--- the answer of what is told
-abbrev read_of_told : Told → ReadAnswer
-read_of_told (done n) = Steps n
-read_of_told (refused_at r p) = RefusedAt (with_number r) p
-read_of_told (refused_by r) = Refused (with_number r)
-
-abbrev write_back : Told → WriteAnswer
-write_back (done n) = Written n
-write_back (refused_at r p) = UnwrittenAt (with_number r) p
-write_back (refused_by r) = Unwritten (with_number r)
-
-abbrev number_back : Got ℕ → NumberRead
-number_back (got n p) = Value n p
-number_back (refused r p) = NoNumber (with_number r) p
-
-read_back : (r : ReadAnswer) → read_of_told (read_told r) ≡ r
-read_back (Steps n) = refl
-read_back (RefusedAt r p) = ap (λ q. RefusedAt q p) (number-back r)
-read_back (Refused r) = ap Refused (number-back r)
-
-write-back : (r : WriteAnswer) → write_back (write_told r) ≡ r
-write-back (Written n) = refl
-write-back (UnwrittenAt r p) = ap (λ q. UnwrittenAt q p) (number-back r)
-write-back (Unwritten r) = ap Unwritten (number-back r)
-
-number-read-back : (r : NumberRead) → number_back (number_found r) ≡ r
-number-read-back (Value n p) = refl
-number-read-back (NoNumber r p) = ap (λ q. NoNumber q p) (number-back r)
-
 -- Any two answers that reading's promise admits are equal, and the buffers with them.
-pub read-determined : (s : List ℕ) (room after after' : List ℤ) (r r' : ReadAnswer)
-    → (read_told r ≡ answer (reading s) room) × (after ≡ content (reading s) room) → (read_told r' ≡ answer (reading s) room) × (after' ≡ content (reading s) room)
+pub read-determined : (s : List ℕ) (room after after' : List ℤ) (r r' : Result ℕ Fault)
+    → (count_told r ≡ answer (reading s) room) × (after ≡ content (reading s) room) → (count_told r' ≡ answer (reading s) room) × (after' ≡ content (reading s) room)
     → (r ≡ r') × (after ≡ after')
-read-determined s room after after' r r' h h' = (sym (read_back r) ∙ ap read_of_told (h.0 ∙ sym h'.0) ∙ read_back r', h.1 ∙ sym h'.1)
+read-determined s room after after' r r' h h' = (count-tells r r' (h.0 ∙ sym h'.0), h.1 ∙ sym h'.1)
 
 -- The same of writing.
-pub write-determined : (l : List ℤ) (out after after' : List ℕ) (r r' : WriteAnswer)
-    → (write_told r ≡ answer (writing l) out) × (after ≡ content (writing l) out) → (write_told r' ≡ answer (writing l) out) × (after' ≡ content (writing l) out)
+pub write-determined : (l : List ℤ) (out after after' : List ℕ) (r r' : Result ℕ Fault)
+    → (count_told r ≡ answer (writing l) out) × (after ≡ content (writing l) out) → (count_told r' ≡ answer (writing l) out) × (after' ≡ content (writing l) out)
     → (r ≡ r') × (after ≡ after')
-write-determined l out after after' r r' h h' = (sym (write-back r) ∙ ap write_back (h.0 ∙ sym h'.0) ∙ write-back r', h.1 ∙ sym h'.1)
+write-determined l out after after' r r' h h' = (count-tells r r' (h.0 ∙ sym h'.0), h.1 ∙ sym h'.1)
+
+-- the answer of what was found
+abbrev number_back : Got ℕ → Result (ℕ × ℕ) BadByte
+number_back (got n p) = Ok (n, p)
+number_back (refused r p) = Err (record { 0 = with_number r; 1 = p })
+
+number-read-back : (r : Result (ℕ × ℕ) BadByte) → number_back (number_found r) ≡ r
+number-read-back (Ok v) = refl
+number-read-back (Err bad) = ap (λ q. Err (record { 0 = q; 1 = bad.1 })) (number-back bad.0)
 
 -- The same of a number at a place.
-pub number-determined : (s : List ℕ) (at : ℕ) (r r' : NumberRead) → number_found r ≡ read_number s at → number_found r' ≡ read_number s at → r ≡ r'
+pub number-determined : (s : List ℕ) (at : ℕ) (r r' : Result (ℕ × ℕ) BadByte) → number_found r ≡ read_number s at → number_found r' ≡ read_number s at → r ≡ r'
 number-determined s at r r' h h' = sym (number-read-back r) ∙ ap number_back (h ∙ sym h') ∙ number-read-back r'

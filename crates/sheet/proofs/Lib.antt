@@ -13,4 +13,5 @@ pub mod Sheeted
 pub mod Answered
 pub mod Sound
 pub mod Places
+pub mod Refusals
 pub mod Claims

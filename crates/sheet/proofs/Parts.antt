@@ -19,7 +19,8 @@ use Rattle.sheet.specs.Operator.{fields_of}
 use Rattle.sheet.specs.Field.{field_at, judged}
 use Rattle.sheet.specs.Step.{Step, fields_at, step_at}
 use Rattle.sheet.specs.Sheet.{steps_from, steps_in, parse, flat}
-use Rattle.sheet.specs.Answer.{done, refused_at, refused_by, answer, content, plan_of, reading}
+use Rattle.refusal.specs.Answer.{done, at_byte, refused_by}
+use Rattle.sheet.specs.Answer.{answer, content, plan_of, reading}
 
 module _ (s : List ℕ) (at : ℕ) where
   pub signed-got : (n p : ℕ) → read_number s at ≡ got n p → field_at Signed s at 0 (pos 0) ≡ got (unfold_number n) p
@@ -163,7 +164,7 @@ pub refused-of : {A : Type 0} (x : Got A) (n p : ℕ) → verdict_of x ≡ wrong
 refused-of (got y q) n p h = let z : ◌≡◌ {A = ℕ} 0 1 = cc in absurd (omega arith)
 refused-of (refused m q) n p h = cc
 
-pub read-refused : (s : List ℕ) (out : List ℤ) (n p : ℕ) → parse s ≡ refused n p → (refused_at n p ≡ answer (reading s) out) × (out ≡ content (reading s) out)
+pub read-refused : (s : List ℕ) (out : List ℤ) (n p : ℕ) → parse s ≡ refused n p → (at_byte n p ≡ answer (reading s) out) × (out ≡ content (reading s) out)
 unfolding reading
 read-refused s out n p h = (rw h, rw h)
 

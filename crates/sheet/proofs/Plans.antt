@@ -10,7 +10,8 @@ use borrow.Author.Tests.{lt-ltb, le-ltb, le-leb, lt-leb, eq-eqb, ne_eqb}
 use Rattle.sheet.specs.Got.{fine, wrong}
 use Rattle.sheet.specs.Number.{write_number}
 use Rattle.sheet.specs.Sheet.{steps_of, steps_fault, steps_bytes, bytes_of}
-use Rattle.sheet.specs.Answer.{done, refused_at, refused_by, fill, answer, content, plan_for, writing}
+use Rattle.refusal.specs.Answer.{done, at_step, refused_by}
+use Rattle.sheet.specs.Answer.{fill, answer, content, plan_for, writing}
 use Rattle.sheet.proofs.Listed.{Filled, filled-then}
 
 -- a step for each four numbers
@@ -30,7 +31,7 @@ module _ (l : List ℤ) (out : List ℕ) where
       (rw e, rw e)
 
   module _ (even : length l % 4 ≡ 0) where
-    pub write-many : 256 < length l / 4 → (refused_at 10 0 ≡ answer (writing l) out) × (out ≡ content (writing l) out)
+    pub write-many : 256 < length l / 4 → (at_step 10 0 ≡ answer (writing l) out) × (out ≡ content (writing l) out)
     unfolding writing
     write-many h =
         let e = eq-eqb (length l % 4) 0 even in
@@ -41,7 +42,7 @@ module _ (l : List ℤ) (out : List ℕ) where
     unfolding writing
     plan h = rw (eq-eqb (length l % 4) 0 even, le-ltb 256 (length l / 4) h)
 
-    pub write-wrong : length l / 4 ≤ 256 → (n k : ℕ) → steps_fault 0 (steps_of l) ≡ wrong n k → (refused_at n k ≡ answer (writing l) out) × (out ≡ content (writing l) out)
+    pub write-wrong : length l / 4 ≤ 256 → (n k : ℕ) → steps_fault 0 (steps_of l) ≡ wrong n k → (at_step n k ≡ answer (writing l) out) × (out ≡ content (writing l) out)
     write-wrong h n k e = (rw (plan h, e), rw (plan h, e))
 
     module _ (few : length l / 4 ≤ 256) (right : steps_fault 0 (steps_of l) ≡ fine) where

@@ -8,142 +8,93 @@ ghost use Rattle.sheet.specs.Step.{fields_at, step_at};
 ghost use Rattle.sheet.specs.Sheet.{steps_from, steps_in, flat};
 ghost use Rattle.sheet.specs.Found.{field_found, step_found, check_found};
 
-use crate::number::{NumberRead, read_number};
+use crate::number::{BadByte, read_number};
 use crate::operator::{Fields, Kind, OPERATORS, fields_of, first, second, third};
 use crate::signed::unfold;
+use crate::step::Step;
 use refusal::Refusal;
 
-// A field and the place after it, or a refusal and its place.
-#[derive(Clone, Copy)]
-pub enum FieldRead {
-    Field(i64, usize),
-    Refused(Refusal, usize),
-}
-
-// A step's operator, its three fields and the place after it, or a refusal and its place.
-#[derive(Clone, Copy)]
-pub enum StepRead {
-    Step(i64, i64, i64, i64, usize),
-    Refused(Refusal, usize),
-}
-
-// Whether all steps are right, or a refusal and its place.
-#[derive(Clone, Copy)]
-pub enum Checked {
-    Fine,
-    Wrong(Refusal, usize),
-}
-
-fn read_signed(s: &[u8], at: usize) -> FieldRead
+fn read_signed(s: &[u8], at: usize) -> Result<(i64, usize), BadByte>
     ensures { field_found result ≡ field_at Signed s.now at 0 (pos 0) }
 {
-    match read_number(s, at) {
-        NumberRead::Value(n, p) => FieldRead::Field(unfold(n), p),
-        NumberRead::Refused(r, p) => FieldRead::Refused(r, p),
-    }
+    let (n, next) = read_number(s, at)?;
+    Ok((unfold(n), next))
 }
 
-fn read_high(s: &[u8], at: usize, low: i64) -> FieldRead
+fn read_high(s: &[u8], at: usize, low: i64) -> Result<(i64, usize), BadByte>
     ensures { field_found result ≡ field_at High s.now at 0 low }
 {
-    match read_signed(s, at) {
-        FieldRead::Field(x, p) => {
-            if x < low {
-                FieldRead::Refused(Refusal::LowAboveHigh, at)
-            } else {
-                FieldRead::Field(x, p)
-            }
-        }
-        FieldRead::Refused(r, p) => FieldRead::Refused(r, p),
+    let (x, next) = read_signed(s, at)?;
+    if x < low {
+        return Err(BadByte(Refusal::LowAboveHigh, at));
     }
+    Ok((x, next))
 }
 
-fn read_operand(s: &[u8], at: usize, k: usize) -> FieldRead
+fn read_operand(s: &[u8], at: usize, k: usize) -> Result<(i64, usize), BadByte>
     requires { k ≤ 256 }
     ensures { field_found result ≡ field_at Earlier s.now at k (pos 0) }
 {
-    match read_number(s, at) {
-        NumberRead::Value(n, p) => {
-            if n < k as u64 {
-                FieldRead::Field(n as i64, p)
-            } else {
-                FieldRead::Refused(Refusal::NotEarlier, at)
-            }
-        }
-        NumberRead::Refused(r, p) => FieldRead::Refused(r, p),
+    let (n, next) = read_number(s, at)?;
+    if n < k as u64 {
+        Ok((n as i64, next))
+    } else {
+        Err(BadByte(Refusal::NotEarlier, at))
     }
 }
 
-// A field of step k, in a step whose first field is `low`.
-fn read_field(s: &[u8], at: usize, kind: Kind, k: usize, low: i64) -> FieldRead
+// A field of step k, in a step whose first field is `low`, and the place after it.
+fn read_field(s: &[u8], at: usize, kind: Kind, k: usize, low: i64) -> Result<(i64, usize), BadByte>
     requires { k ≤ 256 }
     ensures { field_found result ≡ field_at kind s.now at k low }
 {
     match kind {
-        Kind::Unused => FieldRead::Field(0, at),
+        Kind::Unused => Ok((0, at)),
         Kind::Signed => read_signed(s, at),
         Kind::High => read_high(s, at, low),
         Kind::Earlier => read_operand(s, at, k),
     }
 }
 
-// The fields of step k.
-fn read_fields(s: &[u8], p: usize, op: u64, f: Fields, k: usize) -> StepRead
+// Step k, of whose operator the fields are read, and the place after it.
+fn read_fields(s: &[u8], p: usize, op: u64, f: Fields, k: usize) -> Result<(Step, usize), BadByte>
     requires { (k ≤ 256) × (op < 17) }
     ensures { step_found result ≡ fields_at f s.now op p k }
 {
-    match read_field(s, p, first(f), k, 0) {
-        FieldRead::Field(x, q) => match read_field(s, q, second(f), k, x) {
-            FieldRead::Field(y, t) => match read_field(s, t, third(f), k, x) {
-                FieldRead::Field(z, u) => StepRead::Step(op as i64, x, y, z, u),
-                FieldRead::Refused(r, u) => StepRead::Refused(r, u),
-            },
-            FieldRead::Refused(r, t) => StepRead::Refused(r, t),
-        },
-        FieldRead::Refused(r, q) => StepRead::Refused(r, q),
-    }
+    let (a, q) = read_field(s, p, first(f), k, 0)?;
+    let (b, t) = read_field(s, q, second(f), k, a)?;
+    let (c, next) = read_field(s, t, third(f), k, a)?;
+    let operator = op as i64;
+    Ok((Step { operator, a, b, c }, next))
 }
 
-// Step k at the place `at`.
-fn read_step(s: &[u8], at: usize, k: usize) -> StepRead
+// Step k at the place `at`, and the place after it.
+fn read_step(s: &[u8], at: usize, k: usize) -> Result<(Step, usize), BadByte>
     requires { k ≤ 256 }
     ensures { step_found result ≡ step_at s.now at k }
 {
-    match read_number(s, at) {
-        NumberRead::Value(op, p) => {
-            if op < OPERATORS {
-                read_fields(s, p, op, fields_of(op), k)
-            } else {
-                StepRead::Refused(Refusal::UnknownOperator, at)
-            }
-        }
-        NumberRead::Refused(r, p) => StepRead::Refused(r, p),
+    let (op, p) = read_number(s, at)?;
+    if op < OPERATORS {
+        read_fields(s, p, op, fields_of(op), k)
+    } else {
+        Err(BadByte(Refusal::UnknownOperator, at))
     }
 }
 
 // Whether n steps and then the end stand at the place `from`.
-pub(crate) fn check_steps(s: &[u8], from: usize, n: usize) -> Checked
+pub(crate) fn check_steps(s: &[u8], from: usize, n: usize) -> Result<(), BadByte>
     requires { n ≤ 256 }
     ensures { check_found result ≡ verdict_of (steps_from n s.now 0 from) }
 {
     let mut at = from;
-    let mut k: usize = 0;
-    while k < n {
-        match read_step(s, at, k) {
-            StepRead::Step(_, _, _, _, next) => {
-                at = next;
-                k = k + 1;
-            }
-            StepRead::Refused(r, p) => {
-                return Checked::Wrong(r, p);
-            }
-        }
+    for k in 0..n {
+        let (_, next) = read_step(s, at, k)?;
+        at = next;
     }
     if at < s.len() {
-        Checked::Wrong(Refusal::LeftOver, at)
-    } else {
-        Checked::Fine
+        return Err(BadByte(Refusal::LeftOver, at));
     }
+    Ok(())
 }
 
 // Stores n steps that were checked, four numbers a step.
@@ -152,21 +103,15 @@ pub(crate) fn fill_steps(s: &[u8], from: usize, n: usize, out: &mut [i64])
     ensures { out.new ≡ sets out.old 0 (flat (steps_in (steps_from n s.now 0 from))) }
 {
     let mut at = from;
-    let mut k: usize = 0;
-    while k < n {
-        match read_step(s, at, k) {
-            StepRead::Step(op, a, b, c, next) => {
-                let i = k * 4;
-                out[i] = op;
-                out[i + 1] = a;
-                out[i + 2] = b;
-                out[i + 3] = c;
-                at = next;
-                k = k + 1;
-            }
-            StepRead::Refused(_, _) => {
-                return;
-            }
-        }
+    for k in 0..n {
+        let Ok((step, next)) = read_step(s, at, k) else {
+            return;
+        };
+        let i = k * 4;
+        out[i] = step.operator;
+        out[i + 1] = step.a;
+        out[i + 2] = step.b;
+        out[i + 3] = step.c;
+        at = next;
     }
 }

@@ -7,7 +7,8 @@ use Prim.Native.Nat.{ℕ}
 use lib.Bits.{bit_and, bit_or}
 use lib.Dec.{eqb}
 use borrow.Author.Tests.{eq-eqb, ne_eqb}
-use Rattle.whole.specs.declared.Order.TheVariants.{Less, Equal, Greater, None}
+use Rattle.std.specs.Prelude.{None, Some}
+use Rattle.std.specs.declared.cmp.Ordering.TheVariants.{Equal, Greater, Less}
 use Rattle.sign.specs.declared.Sign.{Sign}
 use Rattle.sign.specs.Sides.{sign_of, ◌inside◌}
 use Rattle.sign.specs.Bits.{bits_of, set?, of_bits}
@@ -56,15 +57,15 @@ module _ (a b : Sign) (i j : ℕ) (p : i ≡ bits_of a) (q : j ≡ bits_of b) wh
   right-out : bit_and i j ≢ j → (b inside a) ≡ false
   right-out n = sym right-common ∙ ne_eqb (bit_and i j) j n
 
-  pub equal_by : bit_and i j ≡ i → bit_and i j ≡ j → Equal ≡ partial_cmp a b
+  pub equal_by : bit_and i j ≡ i → bit_and i j ≡ j → (Some Equal) ≡ partial_cmp a b
   unfolding partial_cmp
   equal_by e f = rw (left_in e, right-in f) refl
 
-  pub less_by : bit_and i j ≡ i → bit_and i j ≢ j → Less ≡ partial_cmp a b
+  pub less_by : bit_and i j ≡ i → bit_and i j ≢ j → (Some Less) ≡ partial_cmp a b
   unfolding partial_cmp
   less_by e n = rw (left_in e, right-out n) refl
 
-  pub greater-by : bit_and i j ≢ i → bit_and i j ≡ j → Greater ≡ partial_cmp a b
+  pub greater-by : bit_and i j ≢ i → bit_and i j ≡ j → (Some Greater) ≡ partial_cmp a b
   unfolding partial_cmp
   greater-by n e = rw (left_out n, right-in e) refl
 

@@ -9,8 +9,9 @@ use native.Mathlib.Omega.{arith}
 use native.Mathlib.Nat.{eq-or-lt_of_le}
 use lib.Dec.{T, T_not, eqb, eqb→eq, eqb_refl, lit<}
 use lib.ListN.{get_or}
-use Rattle.whole.specs.declared.Order.{Order}
-use Rattle.whole.specs.declared.Order.TheVariants.{Less, Equal, Greater, None}
+use Rattle.std.specs.declared.cmp.Ordering.{Ordering}
+use Rattle.std.specs.Prelude.{None, Option, Some}
+use Rattle.std.specs.declared.cmp.Ordering.TheVariants.{Equal, Greater, Less}
 use Rattle.sign.specs.declared.Sign.{Sign}
 use Rattle.sign.specs.declared.Sign.TheVariants.{Top, Bottom, Negative, Zero, Positive, NonNeg, NonZero, NonPos}
 use Rattle.sign.specs.Index.{index_of}
@@ -43,22 +44,22 @@ signs = record { code = index_of; back = sign_at; again = at-index }
 pub differ : (s t : Sign) → T (not (eqb (index_of s) (index_of t))) → s ≢ t
 differ s t u e = T_not (eqb (index_of s) (index_of t)) u (subst (λ (x : Sign). T (eqb (index_of s) (index_of x))) e (eqb_refl (index_of s)))
 
-abbrev pub place_of : Order → ℕ
-place_of Less = 0
-place_of Equal = 1
-place_of Greater = 2
+abbrev pub place_of : Option Ordering → ℕ
+place_of (Some Less) = 0
+place_of (Some Equal) = 1
+place_of (Some Greater) = 2
 place_of None = 3
 
-abbrev pub order_at : ℕ → Order
-order_at n = get_or (Less ∷ Equal ∷ Greater ∷ None ∷ []) n Less
+abbrev pub order_at : ℕ → Option Ordering
+order_at n = get_or ((Some Less) ∷ (Some Equal) ∷ (Some Greater) ∷ None ∷ []) n (Some Less)
 
-pub at_place : (o : Order) → order_at (place_of o) ≡ o
-at_place Less = refl
-at_place Equal = refl
-at_place Greater = refl
+pub at_place : (o : Option Ordering) → order_at (place_of o) ≡ o
+at_place (Some Less) = refl
+at_place (Some Equal) = refl
+at_place (Some Greater) = refl
 at_place None = refl
 
-abbrev pub orders : Coded Order
+abbrev pub orders : Coded (Option Ordering)
 orders = record { code = place_of; back = order_at; again = at_place }
 
 abbrev pub bit_of : Bool → ℕ

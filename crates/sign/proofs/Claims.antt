@@ -7,25 +7,23 @@ use Prim.Native.Nat.{ℕ}
 use native.Mathlib.Omega.{arith}
 use lib.IntN.{ℤ, pos, neg_ℤ, ◌+ℤ◌, ◌-ℤ◌, ◌*ℤ◌, neg_ℤ-neg_ℤ}
 use lib.Signed.{quot_z, rem_z}
+use Rattle.refusal.specs.declared.Refusal.{Refusal}
+use Rattle.std.specs.Prelude.{Err, None, Ok, Result}
 use Rattle.whole.specs.Test.{◌≤?◌, ◌<?◌, ◌≟◌, truth}
 use Rattle.whole.specs.Whole.{◌≼◌, ◌≺◌}
-use Rattle.whole.specs.declared.Order.TheVariants.{None}
 use Rattle.whole.proofs.Decides.{branch, le_test, lt_test, eq_test}
 use Rattle.whole.proofs.Linear.{ints}
 use Rattle.sign.specs.declared.Sign.{Sign}
 use Rattle.sign.specs.declared.Sign.TheVariants.{Top, Bottom, Negative, Zero, Positive, NonNeg, NonZero, NonPos}
 use Rattle.refusal.specs.Number.{number_of}
-use Rattle.refusal.specs.Answer.{is, refused}
+use Rattle.refusal.specs.Answer.{is, refused, told}
 use Rattle.refusal.proofs.Claims.{number-tells}
-use Rattle.sign.specs.declared.SignAnswer.{SignAnswer}
-use Rattle.sign.specs.declared.SignAnswer.TheVariants.{Is, Refused}
 use Rattle.sign.specs.Set.{side_of, ◌has◌, ◌∈◌}
 use Rattle.sign.specs.Sides.{with_nought}
 use Rattle.sign.specs.Numbers.{Least₁, Least, LeastOver, ◌≻◌, ◌≽◌, Ordered, Strict, Weak, Judged}
 use Rattle.sign.specs.Numbers as numbers
 use Rattle.sign.specs.Logical.{Combined, Equated, Turned}
 use Rattle.sign.specs.Logical as logical
-use Rattle.sign.specs.Answer.{said}
 use Rattle.sign.specs.Ported as ported
 use Rattle.sign.specs.Ported.{of_number, join, meet, partial_cmp, widen, narrow, add, neg, sub, mul, rem, logical_eq, logical_and, logical_or, strict_cmp}
 use Rattle.sign.specs.Mended as mended
@@ -282,8 +280,8 @@ mended-not-right s = (
 )
 
 -- what an answer says fixes it
-pub said-fixes : (r s : SignAnswer) → said r ≡ said s → r ≡ s
-said-fixes (Is s) (Is t) e = cc
-said-fixes (Is s) (Refused r) e = absurd (is-no-refusal e)
-said-fixes (Refused r) (Is s) e = absurd (is-no-refusal (sym e))
-said-fixes (Refused r) (Refused q) e = let k : number_of r ≡ number_of q = cc in ap Refused (number-tells r q k)
+pub said-fixes : (r s : Result Sign Refusal) → told r ≡ told s → r ≡ s
+said-fixes (Ok s) (Ok t) e = cc
+said-fixes (Ok s) (Err r) e = absurd (is-no-refusal e)
+said-fixes (Err r) (Ok s) e = absurd (is-no-refusal (sym e))
+said-fixes (Err r) (Err q) e = let k : number_of r ≡ number_of q = cc in ap Err (number-tells r q k)

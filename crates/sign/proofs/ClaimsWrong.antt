@@ -6,10 +6,11 @@ use mathlib.Core.Bool.{Bool, true, false, ◌&&◌, ◌||◌}
 use lib.Dec.{eqb}
 use lib.IntN.{ℤ, pos, negsuc}
 use lib.Signed.{quot_z}
+use Rattle.std.specs.Prelude.{Some}
+use Rattle.std.specs.declared.cmp.Ordering.TheVariants.{Greater, Less}
 use Rattle.whole.specs.Choice.{pick}
 use Rattle.whole.specs.Test.{◌≟◌, truth}
 use Rattle.whole.specs.Whole.{◌≺◌}
-use Rattle.whole.specs.declared.Order.TheVariants.{Less, Greater}
 use Rattle.whole.proofs.Decides.{holds, fails, eq_test, is_true, is_false}
 use Rattle.whole.proofs.Linear.{ints}
 use Rattle.sign.specs.declared.Sign.{Sign}
@@ -50,15 +51,15 @@ weak-exchanged = (refl, refl)
 pub weak-right-elsewhere : (a b : Sign) → listed exchanged a b ≡ false → ported.weak_cmp a b ≡ mended.weak_cmp a b
 unfolding ported.weak_cmp mended.weak_cmp sub add neg
 weak-right-elsewhere a b h =
-    unpicked (listed exchanged a b) Less (ported.weak_cmp a b) (mended.weak_cmp a b) h
-    (rules orders (λ a b. pick (listed exchanged a b) Less (ported.weak_cmp a b)) (λ a b. pick (listed exchanged a b) Less (mended.weak_cmp a b)) tt a b)
+    unpicked (listed exchanged a b) (Some Less) (ported.weak_cmp a b) (mended.weak_cmp a b) h
+    (rules orders (λ a b. pick (listed exchanged a b) (Some Less) (ported.weak_cmp a b)) (λ a b. pick (listed exchanged a b) (Some Less) (mended.weak_cmp a b)) tt a b)
 
 -- it says that 0 is at least 1, and that 0 is at most -1
-pub weak-wrong-NonNeg : (ported.weak_cmp Zero NonNeg ≡ Greater) × (pos 0 ∈ Zero) × (pos 1 ∈ NonNeg) × (pos 0 ≺ pos 1)
+pub weak-wrong-NonNeg : (ported.weak_cmp Zero NonNeg ≡ (Some Greater)) × (pos 0 ∈ Zero) × (pos 1 ∈ NonNeg) × (pos 0 ≺ pos 1)
 unfolding ported.weak_cmp sub add neg
 weak-wrong-NonNeg = (refl, record { is = refl }, record { is = refl }, omega ints)
 
-pub weak-wrong-NonPos : (ported.weak_cmp Zero NonPos ≡ Less) × (pos 0 ∈ Zero) × (negsuc 0 ∈ NonPos) × (negsuc 0 ≺ pos 0)
+pub weak-wrong-NonPos : (ported.weak_cmp Zero NonPos ≡ (Some Less)) × (pos 0 ∈ Zero) × (negsuc 0 ∈ NonPos) × (negsuc 0 ≺ pos 0)
 unfolding ported.weak_cmp sub add neg
 weak-wrong-NonPos = (refl, record { is = refl }, record { is = refl }, omega ints)
 

@@ -1,5 +1,4 @@
 pub mod Cells
-pub mod Keys
 pub mod ByBits
 pub mod Laws
 pub mod ClaimsSet

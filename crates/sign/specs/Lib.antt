@@ -4,7 +4,6 @@ pub mod Numbers
 pub mod Sides
 pub mod Bits
 pub mod Compared
-pub mod Answer
 pub mod Ported
 pub mod Mended
 pub mod Logical

@@ -1,5 +1,6 @@
 -- The twins that are right, by the rules of document 01.
-use Rattle.whole.specs.declared.Order.{Order}
+use Rattle.std.specs.declared.cmp.Ordering.{Ordering}
+use Rattle.std.specs.Prelude.{Option}
 use Rattle.sign.specs.declared.Sign.{Sign}
 use Rattle.sign.specs.declared.Sign.TheVariants.{Top, Bottom, Negative, Zero, Positive, NonNeg, NonZero, NonPos}
 use Rattle.whole.specs.Choice.{pick}
@@ -7,7 +8,7 @@ use Rattle.sign.specs.Sides.{filled, ◌inside◌, ◌same◌}
 use Rattle.sign.specs.Compared.{weakly}
 use Rattle.sign.specs.Ported as ported
 
-unfoldable pub weak_cmp : Sign → Sign → Order
+unfoldable pub weak_cmp : Sign → Sign → Option Ordering
 weak_cmp a b = weakly (ported.sub a b)
 
 -- as ported, with Top for NonZero

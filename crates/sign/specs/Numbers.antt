@@ -1,9 +1,9 @@
 -- What the claims say of the numbers that signs stand for: each sign by the order of the whole numbers, one sign inside another,
 -- the least sign of results, how every two numbers compare, and answers that are exact.
-use Rattle.std.specs.Prelude.{◌≡◌, ◌≢◌, ℤ, pos}
+use Rattle.std.specs.declared.cmp.Ordering.{Ordering}
+use Rattle.std.specs.declared.cmp.Ordering.TheVariants.{Equal, Greater, Less}
+use Rattle.std.specs.Prelude.{◌≡◌, ◌≢◌, ℤ, pos, None, Option, Some}
 use Rattle.whole.specs.Whole.{◌≼◌, ◌≺◌}
-use Rattle.whole.specs.declared.Order.{Order}
-use Rattle.whole.specs.declared.Order.TheVariants.{Less, Equal, Greater, None}
 use Rattle.sign.specs.declared.Sign.{Sign}
 use Rattle.sign.specs.declared.Sign.TheVariants.{Top, Bottom, Negative, Zero, Positive, NonNeg, NonZero, NonPos}
 use Rattle.sign.specs.Set.{◌∈◌}
@@ -61,24 +61,24 @@ Not R x y = R x y → ⊥
 -- ---- answers, each with what it says
 
 -- the order by inclusion
-pub data Ordered (a b : Sign) : Order → Type 0 where
-  equal : a ⊑ b → b ⊑ a → Ordered a b Equal
-  less : a ⊑ b → (b ⊑ a → ⊥) → Ordered a b Less
-  greater : (a ⊑ b → ⊥) → b ⊑ a → Ordered a b Greater
+pub data Ordered (a b : Sign) : Option Ordering → Type 0 where
+  equal : a ⊑ b → b ⊑ a → Ordered a b (Some Equal)
+  less : a ⊑ b → (b ⊑ a → ⊥) → Ordered a b (Some Less)
+  greater : (a ⊑ b → ⊥) → b ⊑ a → Ordered a b (Some Greater)
   none : (a ⊑ b → ⊥) → (b ⊑ a → ⊥) → Ordered a b None
 
 -- all numbers less, all equal, all greater
-pub data Strict (a b : Sign) : Order → Type 0 where
-  less : Every ◌≺◌ a b → Strict a b Less
-  equal : Every ◌≡◌ a b → Strict a b Equal
-  greater : Every ◌≻◌ a b → Strict a b Greater
+pub data Strict (a b : Sign) : Option Ordering → Type 0 where
+  less : Every ◌≺◌ a b → Strict a b (Some Less)
+  equal : Every ◌≡◌ a b → Strict a b (Some Equal)
+  greater : Every ◌≻◌ a b → Strict a b (Some Greater)
   none : (Every ◌≺◌ a b → ⊥) → (Every ◌≡◌ a b → ⊥) → (Every ◌≻◌ a b → ⊥) → Strict a b None
 
 -- the same with equal numbers let in
-pub data Weak (a b : Sign) : Order → Type 0 where
-  equal : Every ◌≡◌ a b → Weak a b Equal
-  less : Every ◌≼◌ a b → (Every ◌≡◌ a b → ⊥) → Weak a b Less
-  greater : Every ◌≽◌ a b → (Every ◌≡◌ a b → ⊥) → Weak a b Greater
+pub data Weak (a b : Sign) : Option Ordering → Type 0 where
+  equal : Every ◌≡◌ a b → Weak a b (Some Equal)
+  less : Every ◌≼◌ a b → (Every ◌≡◌ a b → ⊥) → Weak a b (Some Less)
+  greater : Every ◌≽◌ a b → (Every ◌≡◌ a b → ⊥) → Weak a b (Some Greater)
   none : (Every ◌≼◌ a b → ⊥) → (Every ◌≽◌ a b → ⊥) → Weak a b None
 
 -- true (Positive) if R holds for every pair, false (Zero) if for none, else both (NonNeg)

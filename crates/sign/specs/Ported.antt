@@ -1,8 +1,8 @@
 -- What each operation of the Rust answers. What it reads off a table is said by sets, from sides; the rest as its text has it.
-use Rattle.std.specs.Prelude.{Bool, ◌&&◌, ◌||◌, ℤ}
+use Rattle.std.specs.declared.cmp.Ordering.{Ordering}
+use Rattle.std.specs.declared.cmp.Ordering.TheVariants.{Equal, Greater, Less}
+use Rattle.std.specs.Prelude.{Bool, ◌&&◌, ◌||◌, ℤ, None, Option, Some}
 use Rattle.whole.specs.Choice.{pick}
-use Rattle.whole.specs.declared.Order.{Order}
-use Rattle.whole.specs.declared.Order.TheVariants.{Less, Equal, Greater, None}
 use Rattle.refusal.specs.Answer.{Answer, is, refused}
 use Rattle.sign.specs.declared.Sign.{Sign}
 use Rattle.sign.specs.declared.Sign.TheVariants.{Negative, Zero, Positive, NonNeg, NonPos}
@@ -28,8 +28,8 @@ join a b = those (λ d. (a has d) || (b has d))
 unfoldable pub meet : Sign → Sign → Sign
 meet a b = those (λ d. (a has d) && (b has d))
 
-unfoldable pub partial_cmp : Sign → Sign → Order
-partial_cmp a b = pick (a inside b) (pick (b inside a) Equal Less) (pick (b inside a) Greater None)
+unfoldable pub partial_cmp : Sign → Sign → Option Ordering
+partial_cmp a b = pick (a inside b) (pick (b inside a) (Some Equal) (Some Less)) (pick (b inside a) (Some Greater) None)
 
 -- the defaults answer the new value
 abbrev pub widen : Sign → Sign → Sign
@@ -84,11 +84,11 @@ logical_not s = pick (s same NonNeg) (is NonNeg) (pick (s same Positive) (is Zer
 
 -- ---- how their numbers compare, by where the differences lie
 
-unfoldable pub strict_cmp : Sign → Sign → Order
+unfoldable pub strict_cmp : Sign → Sign → Option Ordering
 strict_cmp a b = strictly (sub a b)
 
 -- the right rule but for two cells, which stand exchanged
-unfoldable pub weak_cmp : Sign → Sign → Order
+unfoldable pub weak_cmp : Sign → Sign → Option Ordering
 weak_cmp a b =
     pick ((a same Zero) && (b same NonNeg)) (weakly (sub Zero NonPos))
     (pick ((a same Zero) && (b same NonPos)) (weakly (sub Zero NonNeg))

@@ -19,31 +19,18 @@ pub(crate) fn bits_of(s: Sign) -> u8
     }
 }
 
-// The sign with these bits, which are asked in turn: a match on eight numbers would become a table of jumps.
+// The sign with these bits: the negative side, 0, the positive side.
 pub(crate) fn of_bits(bits: u8) -> Sign
     ensures { result ≡ of_bits bits }
 {
-    if bits & 4 == 0 {
-        if bits & 2 == 0 {
-            if bits & 1 == 0 {
-                Sign::Bottom
-            } else {
-                Sign::Positive
-            }
-        } else if bits & 1 == 0 {
-            Sign::Zero
-        } else {
-            Sign::NonNeg
-        }
-    } else if bits & 2 == 0 {
-        if bits & 1 == 0 {
-            Sign::Negative
-        } else {
-            Sign::NonZero
-        }
-    } else if bits & 1 == 0 {
-        Sign::NonPos
-    } else {
-        Sign::Top
+    match (bits & 4 != 0, bits & 2 != 0, bits & 1 != 0) {
+        (true, true, true) => Sign::Top,
+        (true, true, false) => Sign::NonPos,
+        (true, false, true) => Sign::NonZero,
+        (true, false, false) => Sign::Negative,
+        (false, true, true) => Sign::NonNeg,
+        (false, true, false) => Sign::Zero,
+        (false, false, true) => Sign::Positive,
+        (false, false, false) => Sign::Bottom,
     }
 }

@@ -12,9 +12,10 @@ pub mod ported;
 mod tables;
 
 use refusal::Refusal;
+use std::cmp::Ordering;
 
 // Each sign's comment names what it stands for, as in the Rust.
-#[derive(Clone, Copy)]
+#[derive(Clone, Copy, PartialEq, Eq, Debug)]
 pub enum Sign {
     // Every number.
     Top,
@@ -37,13 +38,6 @@ impl Sign {
     pub const BOTTOM: Sign = Sign::Bottom;
 }
 
-// A sign, or the refusal in place of the Rust's panic.
-#[derive(Clone, Copy)]
-pub enum SignAnswer {
-    Is(Sign),
-    Refused(Refusal),
-}
-
 // Every number: the constant, by a call.
 pub fn top() -> Sign
     ensures { result ≡ sets.top }
@@ -62,27 +56,16 @@ pub fn bottom() -> Sign
 pub fn index_of(s: Sign) -> usize
     ensures { result ≡ index_of s }
 {
-    match s {
-        Sign::Top => 0,
-        Sign::Bottom => 1,
-        Sign::Negative => 2,
-        Sign::Zero => 3,
-        Sign::Positive => 4,
-        Sign::NonNeg => 5,
-        Sign::NonZero => 6,
-        Sign::NonPos => 7,
-    }
+    s as usize
 }
 
 // The sign of a number.
 pub fn of_number(n: i64) -> Sign
     ensures { result ≡ ports.of_number n }
 {
-    if n < 0 {
-        Sign::Negative
-    } else if n == 0 {
-        Sign::Zero
-    } else {
-        Sign::Positive
+    match n.cmp(&0) {
+        Ordering::Less => Sign::Negative,
+        Ordering::Equal => Sign::Zero,
+        Ordering::Greater => Sign::Positive,
     }
 }

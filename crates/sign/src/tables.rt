@@ -1,11 +1,16 @@
 // Four of the Rust's tables: a row for the left sign, a column for the right one, both in the order of index_of.
-// Bot, Neg, Pos and Same, More are short for Bottom, Negative, Positive and Equal, Greater, so that a row is a line.
+// Bot, Neg, Pos and LESS, SAME, MORE are short, so that a row is a line.
 use crate::Sign;
 use crate::Sign::{
     Bottom as Bot, Negative as Neg, NonNeg, NonPos, NonZero, Positive as Pos, Top, Zero,
 };
-use whole::Order;
-use whole::Order::{Equal as Same, Greater as More, Less, None};
+use std::cmp::Ordering;
+
+const LESS: Option<Ordering> = Some(Ordering::Less);
+
+const SAME: Option<Ordering> = Some(Ordering::Equal);
+
+const MORE: Option<Ordering> = Some(Ordering::Greater);
 
 // The sides that sums reach.
 pub const ADDITION: [[Sign; 8]; 8] = [
@@ -34,27 +39,27 @@ pub const MULTIPLICATION: [[Sign; 8]; 8] = [
 ];
 
 // How each number of the left compares with each one of the right, if all alike.
-pub const STRICT_CONCRETE_COMPARISON: [[Order; 8]; 8] = [
+pub const STRICT_CONCRETE_COMPARISON: [[Option<Ordering>; 8]; 8] = [
     // left/right   Top,  Bot,  Neg,  Zero, Pos,  NonN, NonZ, NonP
     [/* Top      */ None, None, None, None, None, None, None, None],
     [/* Bottom   */ None, None, None, None, None, None, None, None],
-    [/* Negative */ None, None, None, Less, Less, Less, None, None],
-    [/* Zero     */ None, None, More, Same, Less, None, None, None],
-    [/* Positive */ None, None, More, More, None, None, None, More],
-    [/* NonNeg   */ None, None, More, None, None, None, None, None],
+    [/* Negative */ None, None, None, LESS, LESS, LESS, None, None],
+    [/* Zero     */ None, None, MORE, SAME, LESS, None, None, None],
+    [/* Positive */ None, None, MORE, MORE, None, None, None, MORE],
+    [/* NonNeg   */ None, None, MORE, None, None, None, None, None],
     [/* NonZero  */ None, None, None, None, None, None, None, None],
-    [/* NonPos   */ None, None, None, None, Less, None, None, None],
+    [/* NonPos   */ None, None, None, None, LESS, None, None, None],
 ];
 
 // The same with equal numbers let in; (Zero, NonNeg) and (Zero, NonPos) stand exchanged, as in the Rust.
-pub const WEAK_CONCRETE_COMPARISON: [[Order; 8]; 8] = [
+pub const WEAK_CONCRETE_COMPARISON: [[Option<Ordering>; 8]; 8] = [
     // left/right   Top,  Bot,  Neg,  Zero, Pos,  NonN, NonZ, NonP
     [/* Top      */ None, None, None, None, None, None, None, None],
     [/* Bottom   */ None, None, None, None, None, None, None, None],
-    [/* Negative */ None, None, None, Less, Less, Less, None, None],
-    [/* Zero     */ None, None, More, Same, Less, More, None, Less],
-    [/* Positive */ None, None, More, More, None, None, None, More],
-    [/* NonNeg   */ None, None, More, More, None, None, None, More],
+    [/* Negative */ None, None, None, LESS, LESS, LESS, None, None],
+    [/* Zero     */ None, None, MORE, SAME, LESS, MORE, None, LESS],
+    [/* Positive */ None, None, MORE, MORE, None, None, None, MORE],
+    [/* NonNeg   */ None, None, MORE, MORE, None, None, None, MORE],
     [/* NonZero  */ None, None, None, None, None, None, None, None],
-    [/* NonPos   */ None, None, None, Less, Less, Less, None, None],
+    [/* NonPos   */ None, None, None, LESS, LESS, LESS, None, None],
 ];

@@ -6,6 +6,7 @@ use native.Mathlib.Omega.{arith}
 use lib.IntN.{ℤ, pos}
 use lib.Signed.{◌≤ℤ◌}
 use mir.Syntax.{Width}
+use Rattle.std.specs.Prelude.{Err, Ok, Result}
 use Rattle.refusal.specs.declared.Refusal.{Refusal}
 use Rattle.whole.proofs.Linear.{ints}
 use Rattle.whole.proofs.Fits.{fits, zero-fits}
@@ -17,19 +18,11 @@ use Rattle.congruence.specs.Set.{◌∈◌ as ◌∈ˢ◌}
 use Rattle.congruence.specs.Set.{Proper as ProperSpacing}
 use Rattle.congruence.proofs.Sets as sets
 use Rattle.step.specs.declared.Operator.{Operator}
-use Rattle.step.specs.declared.Outcome.{Outcome}
-use Rattle.step.specs.declared.Outcome.TheVariants.{Gives}
 use Rattle.step.specs.declared.show.Shown.{Shown}
 use Rattle.step.specs.Run.{run_op}
-use Rattle.step.specs.Range.{Answered, shows, declines}
 use Rattle.step.specs.Spacing.{spacing_op}
 use Rattle.step.specs.Signs.{sign_op}
-use Rattle.step.specs.declared.show.ShownAnswer.{ShownAnswer}
-use Rattle.step.specs.declared.show.ShownAnswer.TheVariants as showns
-use Rattle.step.specs.declared.range.RangeAnswer.{RangeAnswer}
-use Rattle.step.specs.declared.range.RangeAnswer.TheVariants as ranges
-use Rattle.step.specs.Told.{range_told}
-use Rattle.step.specs.Show.{show_op, shown, beside, input_shown, shown_told}
+use Rattle.step.specs.Show.{show_op, shown, beside, input_shown}
 use Rattle.step.specs.Valid.{ValidOperator}
 use Rattle.step.specs.Fair.{GivesIn, given, Fair, passes, refuses}
 use Rattle.step.specs.Panel.{Stopped, Honest, gives-in, stops-by, Lawful}
@@ -39,16 +32,16 @@ use Rattle.step.proofs.SignHas.{sign-has}
 use Rattle.step.proofs.SpacingHas.{spacing-has, spacing-proper}
 use Rattle.interval.proofs.ClaimsSign.{ordered-sign-covers}
 
-number : {v : Interval} {o : Outcome} → GivesIn v o → (n : ℤ) × (o ≡ Gives n) × (n ∈ʳ v)
+number : {v : Interval} {o : Result ℤ Refusal} → GivesIn v o → (n : ℤ) × (o ≡ Ok n) × (n ∈ʳ v)
 number (given {n = n} h) = (n, refl, h)
 
 module _ (w : Width) (o : Operator) (s t u : Shown) (f : ValidOperator w o) (ps : GoodShown w s) (pt : GoodShown w t) (pu : GoodShown w u) where
   -- spacing and sign join a range that is fair
-  turned : {a : Answered Interval} → Fair w (run_op w o) s.range t.range u.range a →
+  turned : {a : Result Interval Refusal} → Fair w (run_op w o) s.range t.range u.range a →
       Honest (stopping w) o s t u (beside (spacing_op w o s.range s.spacing t.spacing u.spacing) (sign_op o s.range s.sign t.sign u.sign) a)
   turned (passes {v = v} g p) = gives-in all (record { range = p; spacing = spacing-proper w s.range s.spacing t.spacing u.spacing ps.spacing pt.spacing pu.spacing o f })
     where
-      all : (x y z : ℤ) → InShown s x → InShown t y → InShown u z → (n : ℤ) × (run_op w o x y z ≡ Gives n) × InShown (shown v (spacing_op w o s.range s.spacing t.spacing u.spacing) (sign_op o s.range s.sign t.sign u.sign)) n
+      all : (x y z : ℤ) → InShown s x → InShown t y → InShown u z → (n : ℤ) × (run_op w o x y z ≡ Ok n) × InShown (shown v (spacing_op w o s.range s.spacing t.spacing u.spacing) (sign_op o s.range s.sign t.sign u.sign)) n
       all x y z a b d =
           let (n, e, h) = number (g x y z a.range b.range d.range) in (
             n,
@@ -66,18 +59,18 @@ module _ (w : Width) (o : Operator) (s t u : Shown) (f : ValidOperator w o) (ps 
   honest = turned (fair ps.range pt.range pu.range o f)
 
   -- v is shown: every run on numbers of the operands gives a number, and it lies in v
-  pub show-sound : (v : Shown) → show_op w o s t u ≡ shows v → (x y z : ℤ) → InShown s x → InShown t y → InShown u z → (n : ℤ) × (run_op w o x y z ≡ Gives n) × InShown v n
+  pub show-sound : (v : Shown) → show_op w o s t u ≡ Ok v → (x y z : ℤ) → InShown s x → InShown t y → InShown u z → (n : ℤ) × (run_op w o x y z ≡ Ok n) × InShown v n
   show-sound v e = by_answer honest e
     where
-      by_answer : {a : Answered Shown} → Honest (stopping w) o s t u a → a ≡ shows v → (x y z : ℤ) → InShown s x → InShown t y → InShown u z → (n : ℤ) × (run_op w o x y z ≡ Gives n) × InShown v n
-      by_answer (gives-in {v = v'} g p) e x y z a b d = let q : v' ≡ v = cc in subst (λ k. (n : ℤ) × (run_op w o x y z ≡ Gives n) × InShown k n) q (g x y z a b d)
+      by_answer : {a : Result Shown Refusal} → Honest (stopping w) o s t u a → a ≡ Ok v → (x y z : ℤ) → InShown s x → InShown t y → InShown u z → (n : ℤ) × (run_op w o x y z ≡ Ok n) × InShown v n
+      by_answer (gives-in {v = v'} g p) e x y z a b d = let q : v' ≡ v = cc in subst (λ k. (n : ℤ) × (run_op w o x y z ≡ Ok n) × InShown k n) q (g x y z a b d)
       by_answer (stops-by m) e x y z a b d = let q : ◌≡◌ {A = ℕ} 0 1 = cc in absurd (omega arith)
 
   -- refused by r: the operands' ranges hold numbers, each drawn from its own, on which the run stops by r
-  pub show-refuses : (r : Refusal) → show_op w o s t u ≡ declines r → Stopped (stopping w) o s t u r
+  pub show-refuses : (r : Refusal) → show_op w o s t u ≡ Err r → Stopped (stopping w) o s t u r
   show-refuses r e = by_answer honest e
     where
-      by_answer : {a : Answered Shown} → Honest (stopping w) o s t u a → a ≡ declines r → Stopped (stopping w) o s t u r
+      by_answer : {a : Result Shown Refusal} → Honest (stopping w) o s t u a → a ≡ Err r → Stopped (stopping w) o s t u r
       by_answer (gives-in g p) e = let q : ◌≡◌ {A = ℕ} 0 1 = cc in absurd (omega arith)
       by_answer (stops-by {r = r'} m) e = let q : r' ≡ r = cc in subst (λ k. Stopped (stopping w) o s t u k) q m
 
@@ -110,24 +103,24 @@ lawful w = record {
 
 -- ---- what is told is one answer's
 
-abbrev range_of_told : Answered Interval → RangeAnswer
-range_of_told (shows v) = ranges.Shows v
-range_of_told (declines r) = ranges.Declines r
+abbrev range_of_told : Result Interval Refusal → Result Interval Refusal
+range_of_told (Ok v) = Ok v
+range_of_told (Err r) = Err r
 
-abbrev shown_back : Answered Shown → ShownAnswer
-shown_back (shows v) = showns.Shows v
-shown_back (declines r) = showns.Declines r
+abbrev shown_back : Result Shown Refusal → Result Shown Refusal
+shown_back (Ok v) = Ok v
+shown_back (Err r) = Err r
 
-range_back : (r : RangeAnswer) → range_of_told (range_told r) ≡ r
-range_back (ranges.Shows v) = refl
-range_back (ranges.Declines r) = refl
+range_back : (r : Result Interval Refusal) → range_of_told r ≡ r
+range_back (Ok v) = refl
+range_back (Err r) = refl
 
-shown-back : (r : ShownAnswer) → shown_back (shown_told r) ≡ r
-shown-back (showns.Shows v) = refl
-shown-back (showns.Declines r) = refl
+shown-back : (r : Result Shown Refusal) → shown_back r ≡ r
+shown-back (Ok v) = refl
+shown-back (Err r) = refl
 
-pub range-fixed : (r r' : RangeAnswer) → range_told r ≡ range_told r' → r ≡ r'
+pub range-fixed : (r r' : Result Interval Refusal) → r ≡ r' → r ≡ r'
 range-fixed r r' h = sym (range_back r) ∙ ap range_of_told h ∙ range_back r'
 
-pub shown-fixed : (r r' : ShownAnswer) → shown_told r ≡ shown_told r' → r ≡ r'
+pub shown-fixed : (r r' : Result Shown Refusal) → r ≡ r' → r ≡ r'
 shown-fixed r r' h = sym (shown-back r) ∙ ap shown_back h ∙ shown-back r'

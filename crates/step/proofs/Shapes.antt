@@ -6,6 +6,7 @@ use lib.IntN.{ℤ, pos, negsuc}
 use lib.Signed.{◌≤ℤ◌, quot_z}
 use mir.Syntax.{Width}
 use mir.Val.{SFits}
+use Rattle.std.specs.Prelude.{Err, Ok, Result}
 use Rattle.refusal.specs.declared.Refusal.{Refusal}
 use Rattle.refusal.specs.declared.Refusal.TheVariants.{ResultTooWide, NotLogical}
 use Rattle.whole.specs.Test.{◌≤?◌, truth}
@@ -26,9 +27,7 @@ use Rattle.interval.proofs.Canonical.{nothing}
 use Rattle.interval.proofs.Remainders.{min-by-minus-one, quotient_fits}
 use Rattle.step.specs.Run as S
 use Rattle.step.specs.Run.{bits, divided, logical}
-use Rattle.step.specs.Range.{Answered, shows, declines, fitting_all, divided_all, logical_all}
-use Rattle.step.specs.declared.Outcome.{Outcome}
-use Rattle.step.specs.declared.Outcome.TheVariants.{Gives, Stops}
+use Rattle.step.specs.Range.{fitting_all, divided_all, logical_all}
 use Rattle.step.specs.Fair.{GivesIn, given, Fair, passes, refuses}
 
 in_top : {w : Width} {n : ℤ} → SFits w n → n ∈ top w
@@ -41,11 +40,11 @@ verdict-proper {w} false true = proper (omega ints) (omega (ints, signs w)) (ome
 verdict-proper {w} false false = proper (omega ints) (omega (ints, signs w)) (one-fits w)
 
 module _ {w : Width} {i j k : Interval} (p : Proper w i) (q : Proper w j) (r : Proper w k) where
-  at : {run : ℤ → ℤ → ℤ → Outcome} {c : Refusal} (x y : ℤ) → x ∈ i → y ∈ j → run x y k.min ≡ Stops c → Fair w run i j k (declines c)
+  at : {run : ℤ → ℤ → ℤ → Result ℤ Refusal} {c : Refusal} (x y : ℤ) → x ∈ i → y ∈ j → run x y k.min ≡ Err c → Fair w run i j k (Err c)
   at x y s t e = refuses (record { x = x; y = y; z = k.min; x-in = s; y-in = t; z-in = low-in r.ordered; stop = e })
 
   -- ---- never stops
-  pub sure : {n : ℤ → ℤ → ℤ → ℤ} {v : Interval} → ((x y z : ℤ) → x ∈ i → y ∈ j → z ∈ k → n x y z ∈ v) → Proper w v → Fair w (λ x y z. Gives (n x y z)) i j k (shows v)
+  pub sure : {n : ℤ → ℤ → ℤ → ℤ} {v : Interval} → ((x y z : ℤ) → x ∈ i → y ∈ j → z ∈ k → n x y z ∈ v) → Proper w v → Fair w (λ x y z. Ok (n x y z)) i j k (Ok v)
   sure f = passes (λ x y z s t u. given (f x y z s t u))
 
   -- ---- a comparison: P, or its contrary N
@@ -60,14 +59,14 @@ module _ {w : Width} {i j k : Interval} (p : Proper w i) (q : Proper w j) (r : P
     told-proper (never h) = proper (omega ints) (omega (ints, signs w)) (omega (ints, signs w))
     told-proper (sometimes h k) = proper (omega ints) (omega (ints, signs w)) (one-fits w)
 
-    pub compared : {a : Answer Interval} → Judged P N i j a → Fair w (λ x y z. Gives (truth (test x y))) i j k (fitting_all a)
+    pub compared : {a : Answer Interval} → Judged P N i j a → Fair w (λ x y z. Ok (truth (test x y))) i j k (fitting_all a)
     compared (judged h) = sure (λ x y z s t u. told_in h x y s t) (told-proper h)
 
   -- ---- stops by 13 where the result doesn't fit
   fitting-gives : {v : Interval} {n : ℤ} → Proper w v → n ∈ v → GivesIn v (S.fitting w n)
   fitting-gives {v} {n} pv h = let f : n ∈ top w = record { low = omega ints; high = omega ints } in rw (is-in f) (given h)
 
-  fitting-stops : {n m : ℤ} → m ≡ n → n ∉ top w → S.fitting w m ≡ Stops ResultTooWide
+  fitting-stops : {n m : ℤ} → m ≡ n → n ∉ top w → S.fitting w m ≡ Err ResultTooWide
   fitting-stops e c = rw (e, not_in c)
 
   pub arithmetic : {f : ℤ → ℤ → ℤ} {a : Answer Interval} → Exact w f i j a → Fair w (λ x y z. S.fitting w (f x y)) i j k (fitting_all a)
@@ -106,7 +105,7 @@ module _ {w : Width} {i j k : Interval} (p : Proper w i) (q : Proper w j) (r : P
       branch (both (in-test (least w) i) (in-test (negsuc 0) j)) F (λ h. at (least w) (negsuc 0) h.0 h.1 (rw (unequal {x = negsuc 0} {y = pos 0} (λ e. omega ints), not_in (min-by-minus-one w)))) λ c.
       through nz (quotient c) (f nz (quotient c))
     where
-      F : Answered Interval → Type 0
+      F : Result Interval Refusal → Type 0
       F = Fair w (λ x y z. divided w x y (n x y)) i j k
 
       through : {a : Answer Interval} → pos 0 ∉ j → ((x y : ℤ) → x ∈ i → y ∈ j → quot_z x y ∈ top w) → Shows n a → F (fitting_all a)
@@ -123,31 +122,31 @@ module _ {w : Width} {i j k : Interval} (p : Proper w i) (q : Proper w j) (r : P
   inside-test : (v : Interval) → Decides (Inside v) ((v.min ∉ bits) ⊎ (v.max ∉ bits)) ((pos 0 ≤? v.min) && (v.max ≤? pos 1))
   inside-test v = weaken (λ h. h) (⊎_map inl inr) (both (le_test _ _) (le_test _ _))
 
-  module _ {run : ℤ → ℤ → ℤ → Outcome} {a : Answered Interval} where
+  module _ {run : ℤ → ℤ → ℤ → Result ℤ Refusal} {a : Result Interval Refusal} where
     pub first : (Inside i → Fair w run i j k a) → Fair w (λ x y z. logical x (run x y z)) i j k (logical_all i a)
     first f = branch (inside-test i) F (λ b. through b (f b)) stop
       where
-        F : Answered Interval → Type 0
+        F : Result Interval Refusal → Type 0
         F = Fair w (λ x y z. logical x (run x y z)) i j k
 
-        through : {a : Answered Interval} → Inside i → Fair w run i j k a → F a
+        through : {a : Result Interval Refusal} → Inside i → Fair w run i j k a → F a
         through b (passes {v = v} g pv) = passes {v = v} (λ x y z s t u. rw (is-in (bit b s)) (g x y z s t u)) pv
         through b (refuses {r = c} m) = refuses {r = c} (record { x = m.x; y = m.y; z = m.z; x-in = m.x-in; y-in = m.y-in; z-in = m.z-in; stop = rw (is-in (bit b m.x-in)) m.stop })
 
-        stop : (i.min ∉ bits) ⊎ (i.max ∉ bits) → F (declines NotLogical)
+        stop : (i.min ∉ bits) ⊎ (i.max ∉ bits) → F (Err NotLogical)
         stop (inl c) = at i.min j.min (low-in p.ordered) (low-in q.ordered) (rw (not_in c))
         stop (inr c) = at i.max j.min (high-in p.ordered) (low-in q.ordered) (rw (not_in c))
 
     pub second : (Inside j → Fair w run i j k a) → Fair w (λ x y z. logical y (run x y z)) i j k (logical_all j a)
     second f = branch (inside-test j) F (λ b. through b (f b)) stop
       where
-        F : Answered Interval → Type 0
+        F : Result Interval Refusal → Type 0
         F = Fair w (λ x y z. logical y (run x y z)) i j k
 
-        through : {a : Answered Interval} → Inside j → Fair w run i j k a → F a
+        through : {a : Result Interval Refusal} → Inside j → Fair w run i j k a → F a
         through b (passes {v = v} g pv) = passes {v = v} (λ x y z s t u. rw (is-in (bit b t)) (g x y z s t u)) pv
         through b (refuses {r = c} m) = refuses {r = c} (record { x = m.x; y = m.y; z = m.z; x-in = m.x-in; y-in = m.y-in; z-in = m.z-in; stop = rw (is-in (bit b m.y-in)) m.stop })
 
-        stop : (j.min ∉ bits) ⊎ (j.max ∉ bits) → F (declines NotLogical)
+        stop : (j.min ∉ bits) ⊎ (j.max ∉ bits) → F (Err NotLogical)
         stop (inl c) = at i.min j.min (low-in p.ordered) (low-in q.ordered) (rw (not_in c))
         stop (inr c) = at i.min j.max (low-in p.ordered) (high-in q.ordered) (rw (not_in c))

@@ -1,11 +1,8 @@
 -- What the desk knows of a panel: what is shown of a step, and what each operator does to numbers and to shown values; and the laws that it
 -- needs of them. The stopping panel of a width is one; panels that wrap, narrower ones and other shown values are others.
-use Rattle.std.specs.Prelude.{◌≡◌, ℤ, pos, ◌≤ℤ◌}
+use Rattle.std.specs.Prelude.{◌≡◌, ℤ, pos, ◌≤ℤ◌, Err, Ok, Result}
 use Rattle.refusal.specs.declared.Refusal.{Refusal}
 use Rattle.step.specs.declared.Operator.{Operator}
-use Rattle.step.specs.declared.Outcome.{Outcome}
-use Rattle.step.specs.declared.Outcome.TheVariants.{Gives, Stops}
-use Rattle.step.specs.Range.{Answered, shows, declines}
 
 pub record Panel : Type 1 where
   pub Shown : Type 0
@@ -20,8 +17,8 @@ pub record Panel : Type 1 where
   pub of_input : ℤ → ℤ → Shown
   pub Valid : Operator → Type 0
   pub ValidInput : ℤ → ℤ → Type 0
-  pub run : Operator → ℤ → ℤ → ℤ → Outcome
-  pub show : Operator → Shown → Shown → Shown → Answered Shown
+  pub run : Operator → ℤ → ℤ → ℤ → Result ℤ Refusal
+  pub show : Operator → Shown → Shown → Shown → Result Shown Refusal
 
 -- numbers, each drawn from its own operand, on which the operator stops by r
 pub record Stopped (P : Panel) (o : Operator) (s t u : P.Shown) (r : Refusal) : Type 0 where
@@ -31,12 +28,12 @@ pub record Stopped (P : Panel) (o : Operator) (s t u : P.Shown) (r : Refusal) : 
   pub x-in : P.Drawn s x
   pub y-in : P.Drawn t y
   pub z-in : P.Drawn u z
-  pub stop : P.run o x y z ≡ Stops r
+  pub stop : P.run o x y z ≡ Err r
 
 -- the answer to an operator is honest: what it shows holds the number of every run, and what it refuses some numbers stop
-pub data Honest (P : Panel) (o : Operator) (s t u : P.Shown) : Answered P.Shown → Type 0 where
-  gives-in : {v : P.Shown} → ((x y z : ℤ) → P.Has s x → P.Has t y → P.Has u z → (n : ℤ) × (P.run o x y z ≡ Gives n) × P.Has v n) → P.Good v → Honest P o s t u (shows v)
-  stops-by : {r : Refusal} → Stopped P o s t u r → Honest P o s t u (declines r)
+pub data Honest (P : Panel) (o : Operator) (s t u : P.Shown) : Result P.Shown Refusal → Type 0 where
+  gives-in : {v : P.Shown} → ((x y z : ℤ) → P.Has s x → P.Has t y → P.Has u z → (n : ℤ) × (P.run o x y z ≡ Ok n) × P.Has v n) → P.Good v → Honest P o s t u (Ok v)
+  stops-by : {r : Refusal} → Stopped P o s t u r → Honest P o s t u (Err r)
 
 pub record Lawful (P : Panel) : Type 0 where
   pub zero_has : P.Has P.zero (pos 0)

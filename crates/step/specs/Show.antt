@@ -1,5 +1,6 @@
 -- What each operator shows: range, spacing and sign together, or the range's refusal; and what an input shows.
-use Rattle.std.specs.Prelude.{ℤ, pos}
+use Rattle.refusal.specs.declared.Refusal.{Refusal}
+use Rattle.std.specs.Prelude.{ℤ, pos, Err, Ok, Result}
 use Rattle.std.specs.Int.{Width}
 use Rattle.whole.specs.Choice.{pick}
 use Rattle.whole.specs.Test.{◌≟◌}
@@ -12,25 +13,19 @@ use Rattle.sign.specs.declared.Sign.{Sign}
 use Rattle.sign.specs.declared.Sign.TheVariants.{Zero}
 use Rattle.step.specs.declared.Operator.{Operator}
 use Rattle.step.specs.declared.show.Shown.{Shown}
-use Rattle.step.specs.declared.show.ShownAnswer.{ShownAnswer}
-use Rattle.step.specs.declared.show.ShownAnswer.TheVariants.{Shows, Declines}
-use Rattle.step.specs.Range.{Answered, shows, declines, range_op}
+use Rattle.step.specs.Range.{range_op}
 use Rattle.step.specs.Spacing.{spacing_op}
 use Rattle.step.specs.Signs.{sign_op}
 
 abbrev pub shown : Interval → Congruence → Sign → Shown
 shown i c s = record { range = i; spacing = c; sign = s }
 
-abbrev pub shown_told : ShownAnswer → Answered Shown
-shown_told (Shows v) = shows v
-shown_told (Declines r) = declines r
-
 -- spacing and sign beside a range that is shown
-abbrev pub beside : Congruence → Sign → Answered Interval → Answered Shown
-beside c s (shows v) = shows (shown v c s)
-beside c s (declines r) = declines r
+abbrev pub beside : Congruence → Sign → Result Interval Refusal → Result Shown Refusal
+beside c s (Ok v) = Ok (shown v c s)
+beside c s (Err r) = Err r
 
-unfoldable pub show_op : Width → Operator → Shown → Shown → Shown → Answered Shown
+unfoldable pub show_op : Width → Operator → Shown → Shown → Shown → Result Shown Refusal
 show_op w o s t u =
     beside
     (spacing_op w o s.range s.spacing t.spacing u.spacing)

@@ -9,25 +9,16 @@ use native.Mathlib.Nat.{le_refl}
 use lib.Dec.{eqb}
 use lib.IntN.{ℤ, pos, negsuc}
 use lib.ListN.{length, get_or, drop}
-use lib.Seq.{get_or-drop, drop-drop}
+use lib.Seq.{drop-drop}
 use mir.Syntax.{w64}
 use mir.Val.{SFits}
 use borrow.Author.Tests.{lt-ltb, le-ltb, ne_eqb}
-use Rattle.text.specs.declared.decimal.Digits.TheVariants.{Value}
-use Rattle.text.specs.declared.decimal.Got.TheVariants.{Number}
+use Rattle.std.specs.Prelude.{Some}
 use Rattle.text.specs.Decimal.{digits, decimal}
 use Rattle.text.specs.Number.{NoDigit, digit_of, total, many, digits_at, minus_at, plus_at, number_at}
 use Rattle.text.proofs.Digits.{lt-or-le}
 use Rattle.text.proofs.Digits.{digits_last, digits_more, longer, a-digit}
-use Rattle.text.proofs.Reading.{value}
-
--- a digit's byte is that digit
-glyph : (d : ℕ) → d < 10 → digit_of (48 + d) ≡ d
-glyph d h =
-    let a : 48 ≤ 48 + d = omega arith in
-    let b : 48 + d ≤ 57 = omega arith in
-    let e : 48 + d - 48 ≡ d = omega arith in
-    rw (le-ltb (48 + d) 48 a, le-ltb 57 (48 + d) b, e)
+use Rattle.text.proofs.Reading.{glyph, value, first}
 
 total-digit : (d v : ℕ) (r : List ℕ) → d < 10 → total ((48 + d) ∷ r) v ≡ total r (v * 10 + d)
 unfolding total
@@ -100,30 +91,27 @@ module _ (s r : List ℕ) (at n : ℕ) (end : NoDigit r) (here : drop at s ≡ d
   many-here : many (drop at s) ≡ length (digits n)
   many-here = ap many here ∙ many-digits n n r (le_refl n) ∙ rw (many-none r end) (omega arith)
 
-  digits-here : n ≤ 2 ^ 63 → digits_at s at ≡ Value n (at + length (digits n))
+  digits-here : n ≤ 2 ^ 63 → digits_at s at ≡ Some (n, at + length (digits n))
   digits-here h =
       value s at n (at + length (digits n)) (λ z. omega (arith, many-here, a-digit n))
       (ap (λ (x : List ℕ). total x 0) here ∙ total-digits n n r (le_refl n) ∙ total-none r n end)
       (ap (λ (k : ℕ). at + k) many-here) h
 
-  plus-here : n < 2 ^ 63 → plus_at s at ≡ Number (pos n) (at + length (digits n))
+  plus-here : n < 2 ^ 63 → plus_at s at ≡ Some (pos n, at + length (digits n))
   unfolding plus_at
   plus-here h =
       let l : n ≤ 2 ^ 63 = omega arith in
       let b : n ≤ 2 ^ 63 - 1 = omega arith in
       rw (digits-here l, le-ltb (2 ^ 63 - 1) n b)
 
-minus-here : (s r : List ℕ) (at n : ℕ) → NoDigit r → drop at s ≡ digits (suc n) ++ r → n < 2 ^ 63 → minus_at s at ≡ Number (negsuc n) (at + length (digits (suc n)))
+minus-here : (s r : List ℕ) (at n : ℕ) → NoDigit r → drop at s ≡ digits (suc n) ++ r → n < 2 ^ 63 → minus_at s at ≡ Some (negsuc n, at + length (digits (suc n)))
 unfolding minus_at
 minus-here s r at n end here h =
     let b : suc n ≤ 2 ^ 63 = omega arith in
     rw (digits-here s r at (suc n) end here b, le-ltb (2 ^ 63) (suc n) b)
 
-first : (s : List ℕ) (at : ℕ) → get_or s at 0 ≡ get_or (drop at s) 0 0
-first s at = let e : at + 0 ≡ at = omega arith in sym (get_or-drop at s 0 0 ∙ ap (λ (k : ℕ). get_or s k 0) e)
-
 -- a number that is written, and after which no digit stands, is read back
-pub there : (s r : List ℕ) (at : ℕ) (z : ℤ) → SFits w64 z → NoDigit r → drop at s ≡ decimal z ++ r → number_at s at ≡ Number z (at + length (decimal z))
+pub there : (s r : List ℕ) (at : ℕ) (z : ℤ) → SFits w64 z → NoDigit r → drop at s ≡ decimal z ++ r → number_at s at ≡ Some (z, at + length (decimal z))
 unfolding number_at decimal
 there s r at (pos n) f end here =
     let m : 0 < many (drop at s) = omega (arith, many-here s r at n end here, a-digit n) in
@@ -132,8 +120,8 @@ there s r at (negsuc n) f end here =
     let q : get_or s at 0 ≡ 45 = first s at ∙ ap (λ (x : List ℕ). get_or x 0 0) here in
     let t : drop (at + 1) s ≡ digits (suc n) ++ r = sym (drop-drop 1 at s) ∙ ap (drop 1) here in
     let e : at + 1 + length (digits (suc n)) ≡ at + suc (length (digits (suc n))) = omega arith in
-    rw q (minus-here s r (at + 1) n end t f.sfits ∙ ap (Number (negsuc n)) e)
+    rw q (minus-here s r (at + 1) n end t f.sfits ∙ ap (λ (k : ℕ). Some (negsuc n, k)) e)
 
 -- a number that is the whole text
-pub alone : (z : ℤ) → SFits w64 z → number_at (decimal z) 0 ≡ Number z (0 + length (decimal z))
+pub alone : (z : ℤ) → SFits w64 z → number_at (decimal z) 0 ≡ Some (z, 0 + length (decimal z))
 alone z f = there (decimal z) [] 0 z f (omega arith) (sym (append-nil (decimal z)))

@@ -1,6 +1,6 @@
 -- Reading what was written gives it back, wherever it stands in a longer text.
 use Prim.Native.Nat.{ℕ, ◌+◌, ◌≤◌, ◌<◌}
-use mathlib.Core.Path.{◌≡◌, refl, ap, ◌∙◌}
+use mathlib.Core.Path.{◌≡◌, refl, sym, ap, ◌∙◌}
 use mathlib.Core.List.{List, ◌++◌, append_assoc, append-nil}
 use mathlib.Core.Bool.{true}
 use native.Mathlib.Omega.{arith}
@@ -10,7 +10,8 @@ use lib.Seq.{drop-append_seam, drop_at, take_at, length-take-le, sets, sets-eq}
 use mir.Syntax.{Width, w64}
 use mir.Val.{SFits}
 use borrow.Author.Tests.{le-leb}
-use Rattle.text.specs.declared.decimal.Got.TheVariants.{Number}
+use Rattle.std.specs.Prelude.{Some}
+use Rattle.std.proofs.lemmas.Option.{some_pair_parts}
 use Rattle.text.specs.Room.{put_bytes}
 use Rattle.text.specs.Decimal.{decimal}
 use Rattle.text.specs.Number.{NoDigit, number_at}
@@ -26,12 +27,12 @@ use Rattle.text.proofs.Codes.{bytes_of, same_word}
 -- ---- decimal
 
 pub decimal-back : (before after : List ℕ) (z : ℤ) → SFits w64 z → NoDigit after
-    → number_at (before ++ (decimal z ++ after)) (length before) ≡ Number z (length before + length (decimal z))
+    → number_at (before ++ (decimal z ++ after)) (length before) ≡ Some (z, length before + length (decimal z))
 decimal-back before after z f end = there (before ++ (decimal z ++ after)) after (length before) z f end (drop-append_seam before (decimal z ++ after))
 
 -- the same of a lent buffer
 pub decimal-put-back : (out : List ℕ) (at : ℕ) (z : ℤ) → SFits w64 z → at + length (decimal z) ≤ length out → NoDigit (drop (at + length (decimal z)) out)
-    → number_at (put_bytes out at (decimal z)) at ≡ Number z (at + length (decimal z))
+    → number_at (put_bytes out at (decimal z)) at ≡ Some (z, at + length (decimal z))
 unfolding put_bytes
 decimal-put-back out at z f h end =
     let l : at ≤ length out = omega arith in
@@ -44,7 +45,7 @@ pub decimal-one : (x y : ℤ) → SFits w64 x → SFits w64 y → decimal x ≡ 
 decimal-one x y f g e =
     let a = alone x f in
     let b = alone y g in
-    cc (ap (λ (t : List ℕ). number_at t 0) e)
+    (some_pair_parts x y _ _ (sym a ∙ ap (λ (t : List ℕ). number_at t 0) e ∙ b)).0
 
 -- ---- the ends of a range: two ends with the same text are the same number
 

@@ -1,5 +1,5 @@
 -- The digits of a number: the last one and those before it, as the loops take them.
-use Prim.Native.Nat.{ℕ, zero, suc, ◌+◌, ◌-◌, ◌%◌, ◌/◌, ◌≤◌, ◌<◌}
+use Prim.Native.Nat.{ℕ, zero, suc, ◌+◌, ◌-◌, ◌*◌, ◌^◌, ◌%◌, ◌/◌, ◌≤◌, ◌<◌}
 use mathlib.Core.Path.{◌≡◌, refl, sym, ap, ◌∙◌}
 use mathlib.Core.List.{List, [], ◌∷◌, ◌++◌}
 use mathlib.Core.Logic.{◌⊎◌, inl, inr, ⊎_elim}
@@ -70,3 +70,36 @@ sets-snoc (x ∷ xs) l at d =
 
 pub a-digit : (n : ℕ) → 0 < length (digits n)
 a-digit n = ⊎_elim (λ s. omega (arith, one-digit n s)) (λ l. omega (arith, longer n l)) (lt-or-le n 10)
+
+-- digits that are stored the last first: those of m are left, before the place i, and t is what is to come of it
+abbrev pub Storing : (t out : List ℕ) (at i m : ℕ) → Type 0
+Storing t out at i m = (at < i → (i ≡ at + length (digits m)) × (t ≡ sets out at (digits m))) × (i ≡ at → t ≡ out)
+
+module _ (t out : List ℕ) (at i m : ℕ) (le : at ≤ i) (s : Storing t out at (i + 1) m) where
+  store-last : m < 10 → Storing t (set out i (48 + m % 10)) at i (m / 10)
+  store-last h =
+      let p = s.0 (omega arith) in
+      let e : at ≡ i = omega (arith, p.0, one-digit m h) in
+      let d : m % 10 ≡ m = omega arith in
+      (λ g. absurd (omega arith), λ f. p.1 ∙ rw (digits_last m h, d, e) refl)
+
+  store-before : 10 ≤ m → Storing t (set out i (48 + m % 10)) at i (m / 10)
+  store-before h =
+      let p = s.0 (omega arith) in
+      let l = longer m h in
+      let e : at + length (digits (m / 10)) ≡ i = omega (arith, p.0, l) in
+      (λ g. (sym e, p.1 ∙ ap (sets out at) (digits_more m h) ∙ sets-snoc (digits (m / 10)) out at (48 + m % 10) ∙ rw e refl), λ f. absurd (omega (arith, e, a-digit (m / 10))))
+
+  pub store-more : Storing t (set out i (48 + m % 10)) at i (m / 10)
+  store-more = ⊎_elim store-last store-before (lt-or-le m 10)
+
+a-power : (k : ℕ) → 0 < 10 ^ k
+a-power zero = omega arith
+a-power (suc k) = omega (arith, a-power k)
+
+-- a number from 10 to the power k up, and below the next power
+pub width-between : (k n : ℕ) → 10 ^ k ≤ n → n < 10 * 10 ^ k → length (digits n) ≡ k + 1
+width-between zero n l h = one-digit n h
+width-between (suc k) n l h =
+    let g : 10 ≤ n = omega (arith, a-power k) in
+    omega (arith, longer n g, width-between k (n / 10) (omega arith) (omega arith))

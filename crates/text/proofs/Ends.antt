@@ -12,8 +12,8 @@ use Rattle.whole.proofs.Decides.{eq_test, branch}
 use Rattle.whole.proofs.Flags.{eq_yes, eq_no}
 use Rattle.text.specs.Ascii.{ascii}
 use Rattle.text.specs.Decimal.{decimal}
-use Rattle.text.specs.declared.decimal.Got.TheVariants.{Nothing}
-use Rattle.text.specs.Number.{many, digits_at, minus_at, plus_at, number_at}
+use Rattle.std.specs.Prelude.{None}
+use Rattle.text.specs.Number.{many, digits_found, digits_at, minus_at, plus_at, number_at}
 use Rattle.text.specs.End.{end_text}
 use Rattle.text.proofs.Back.{alone}
 
@@ -44,17 +44,17 @@ end_of w z = branch (eq_test z (greatest w)) (EndOf w z) top (λ n. branch (eq_t
 
 -- no number is written as `inf` or `-inf`
 not-inf : (z : ℤ) → SFits w64 z → ascii "inf" ≡ decimal z → ⊥
-unfolding number_at plus_at digits_at many
+unfolding number_at plus_at digits_at digits_found many
 not-inf z f e =
     let a = alone z f in
-    let b : number_at (ascii "inf") 0 ≡ Nothing = refl in
+    let b : number_at (ascii "inf") 0 ≡ None = refl in
     let z : ◌≡◌ {A = ℕ} 0 1 = cc (ap (λ (t : List ℕ). number_at t 0) e) in omega arith
 
 not-minus-inf : (z : ℤ) → SFits w64 z → ascii "-inf" ≡ decimal z → ⊥
-unfolding number_at minus_at digits_at many
+unfolding number_at minus_at digits_at digits_found many
 not-minus-inf z f e =
     let a = alone z f in
-    let b : number_at (ascii "-inf") 0 ≡ Nothing = refl in
+    let b : number_at (ascii "-inf") 0 ≡ None = refl in
     let z : ◌≡◌ {A = ℕ} 0 1 = cc (ap (λ (t : List ℕ). number_at t 0) e) in omega arith
 
 pub same_end : {w : Width} {x y : ℤ} {s t : List ℕ} → SFits w64 x → SFits w64 y → EndOf w x s → EndOf w y t → s ≡ t → (decimal x ≡ decimal y → x ≡ y) → x ≡ y

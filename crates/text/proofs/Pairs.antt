@@ -1,19 +1,22 @@
 -- Hexadecimal: what a turn of writing and of reading does to what is left.
 use Prim.Native.Nat.{ℕ, suc, ◌+◌, ◌-◌, ◌*◌, ◌/◌, ◌%◌, ◌≤◌, ◌<◌}
-use mathlib.Core.Path.{◌≡◌, refl, ap, ◌∙◌}
+use mathlib.Core.Path.{◌≡◌, refl, sym, ap, ◌∙◌}
 use mathlib.Core.List.{List, [], ◌∷◌, ◌++◌}
 use mathlib.Core.Bool.{Bool, true, false, ◌&&◌}
 use mathlib.Core.Logic.{⊎_elim}
 use native.Mathlib.Omega.{arith}
 use native.Mathlib.Numerals.{add-one}
-use lib.ListN.{length, get_or, drop, drop_of_length-le, get_or-eq_default}
-use lib.Seq.{drop-cons, sets}
+use lib.Dec.{ltb}
+use lib.ListN.{length, get_or, drop, length-drop, drop_of_length-le}
+use lib.Seq.{drop-cons, drop-drop, sets}
 use borrow.Author.Tests.{lt-ltb, le-ltb, le-leb, lt-leb}
-use Rattle.text.specs.declared.hex.Bytes.TheVariants.{Are, NoRoom}
+use Rattle.std.specs.Prelude.{Some, None}
+use Rattle.std.specs.Char.{IsDigitOf, digit_value}
+use Rattle.std.proofs.lemmas.Option.{same_Some, none-some}
+use Rattle.whole.specs.Choice.{pick}
 use Rattle.text.specs.Room.{put_bytes}
-use Rattle.text.specs.Hex.{NoNibble, digit, hex_text, nibble, nibble_at, hex_bytes, hex_answer}
+use Rattle.text.specs.Hex.{NoNibble, digit, hex_text, nibble, first_byte, hex_bytes, hex_answer}
 use Rattle.text.proofs.Digits.{lt-or-le}
-use Rattle.text.proofs.Room.{room, no_room}
 
 -- ---- writing
 
@@ -52,57 +55,105 @@ module _ (a : ℕ) where
     unfolding hex_bytes
     two h k = rw (lt-ltb (nibble a) 16 h, lt-ltb (nibble b) 16 k)
 
-module _ (s : List ℕ) (i : ℕ) where
-  pub past : length s ≤ i → nibble_at s i ≡ 16
-  unfolding nibble_at nibble
-  past h = rw (get_or-eq_default s 0 h)
+-- the library's digit, and no digit
+pub a-nibble : (c v : ℕ) → v < 16 → IsDigitOf c v → nibble c ≡ v
+unfolding nibble
+a-nibble c v h is = ⊎_elim (λ p. decimal p.0.0 p.0.1 p.1) (λ q. ⊎_elim (λ p. upper p.0.0 p.1) (λ p. lower p.0.0 p.1) q) is
+  where
+    decimal : 48 ≤ c → c ≤ 57 → 48 + v ≡ c → nibble c ≡ v
+    decimal a b e =
+        let l : c < 58 = omega arith in
+        rw (le-ltb c 48 a, lt-ltb c 58 l) (omega arith)
 
-  pub inside : nibble_at s i < 16 → i < length s
-  inside h = ⊎_elim (λ l. l) (λ g. absurd (omega (arith, past g))) (lt-or-le i (length s))
+    upper : 65 ≤ c → 55 + v ≡ c → nibble c ≡ v
+    upper a e =
+        let k : 48 ≤ c = omega arith in
+        let l : 58 ≤ c = omega arith in
+        let m : c < 71 = omega arith in
+        rw (le-ltb c 48 k, le-ltb c 58 l, le-ltb c 65 a, lt-ltb c 71 m) (omega arith)
 
-  pub pair-first : 15 < nibble_at s i → hex_bytes (drop i s) ≡ []
-  unfolding nibble_at hex_bytes
-  pair-first h = ⊎_elim
-      (λ l. rw (drop-cons s i 0 l) (first-not (get_or s i 0) (drop (suc i) s) h))
-      (λ g. rw (drop_of_length-le s g))
-      (lt-or-le i (length s))
+    lower : 97 ≤ c → 87 + v ≡ c → nibble c ≡ v
+    lower a e =
+        let k : 48 ≤ c = omega arith in
+        let l : 58 ≤ c = omega arith in
+        let m : 65 ≤ c = omega arith in
+        let n : 71 ≤ c = omega arith in
+        let o : c < 103 = omega arith in
+        rw (le-ltb c 48 k, le-ltb c 58 l, le-ltb c 65 m, le-ltb c 71 n, le-ltb c 97 a, lt-ltb c 103 o) (omega arith)
 
-  single : i < length s → length s ≤ suc i → hex_bytes (drop i s) ≡ []
-  unfolding hex_bytes
-  single l g = rw (drop-cons s i 0 l, drop_of_length-le s g)
+pub no_nibble : (c : ℕ) → (digit_value c < 16 → ⊥) → 15 < nibble c
+unfolding nibble
+no_nibble c h =
+    ⊎_elim (λ a. rw (lt-ltb c 48 a) (omega arith)) (λ a.
+    ⊎_elim (λ b. absurd (h (rw (le-ltb c 48 a, lt-ltb c 58 b) (omega arith)))) (λ b.
+    ⊎_elim (λ d. rw (le-ltb c 48 a, le-ltb c 58 b, lt-ltb c 65 d) (omega arith)) (λ d.
+    ⊎_elim (λ e. absurd (h (upper a b d e))) (λ e.
+    ⊎_elim (λ f. rw (le-ltb c 48 a, le-ltb c 58 b, le-ltb c 65 d, le-ltb c 71 e, lt-ltb c 97 f) (omega arith)) (λ f.
+    ⊎_elim (λ g. absurd (h (lower a b d f g))) (λ g. rw (le-ltb c 48 a, le-ltb c 58 b, le-ltb c 65 d, le-ltb c 71 e, le-ltb c 97 f, le-ltb c 103 g) (omega arith))
+    (lt-or-le c 103)) (lt-or-le c 97)) (lt-or-le c 71)) (lt-or-le c 65)) (lt-or-le c 58)) (lt-or-le c 48)
+  where
+    upper : 48 ≤ c → 58 ≤ c → 65 ≤ c → c < 71 → digit_value c < 16
+    upper a b d e =
+        let k : c < 91 = omega arith in
+        rw (le-ltb c 48 a, le-ltb c 58 b, le-ltb c 65 d, lt-ltb c 91 k) (omega arith)
 
-  none : length s ≤ i → hex_bytes (drop i s) ≡ []
-  unfolding hex_bytes
-  none g = rw (drop_of_length-le s g)
+    lower : 48 ≤ c → 58 ≤ c → 65 ≤ c → 97 ≤ c → c < 103 → digit_value c < 16
+    lower a b d f g =
+        let k : 91 ≤ c = omega arith in
+        let l : c < 123 = omega arith in
+        rw (le-ltb c 48 a, le-ltb c 58 b, le-ltb c 65 d, le-ltb c 91 k, le-ltb c 97 f, lt-ltb c 123 l) (omega arith)
 
-  pub pair-second : 15 < nibble_at s (i + 1) → hex_bytes (drop i s) ≡ []
-  unfolding nibble_at
-  pair-second h =
-      let k : 15 < nibble (get_or s (suc i) 0) = rw add-one at h in
-      ⊎_elim
-      (λ l. ⊎_elim
-      (λ m. rw (drop-cons s i 0 l, drop-cons s (suc i) 0 m) (second-not (get_or s i 0) (get_or s (suc i) 0) (drop (suc (suc i)) s) k))
-      (λ g. single l g)
-      (lt-or-le (suc i) (length s)))
-      (λ g. none g)
-      (lt-or-le i (length s))
+none-short : (r : List ℕ) → length r < 2 → first_byte r ≡ None
+none-short [] h = refl
+none-short (a ∷ []) h = refl
+none-short (a ∷ (b ∷ r)) h = absurd (omega arith)
 
-pub pair-more : (s : List ℕ) (i : ℕ) → nibble_at s i < 16 → nibble_at s (i + 1) < 16
-    → hex_bytes (drop i s) ≡ (nibble_at s i * 16 + nibble_at s (i + 1)) ∷ hex_bytes (drop (i + 2) s)
-unfolding nibble_at
-pair-more s i h k =
-    let l : i < length s = inside s i h in
-    let m : suc i < length s = rw add-one at (inside s (i + 1) k) in
-    let n : nibble (get_or s (suc i) 0) < 16 = rw add-one at k in
-    let e : i + 2 ≡ suc (suc i) = omega arith in
-    rw (e, add-one i, drop-cons s i 0 l, drop-cons s (suc i) 0 m) (two (get_or s i 0) (get_or s (suc i) 0) (drop (suc (suc i)) s) h n)
+-- by the two digits at the start of r
+pub not-first : (r : List ℕ) → 15 < nibble (get_or r 0 0) → None ≡ first_byte r
+not-first [] h = refl
+not-first (a ∷ []) h = refl
+not-first (a ∷ (b ∷ r)) h = rw (le-ltb (nibble a) 16 h)
 
--- where a byte is read there are two digits
-pub pair-some : (s : List ℕ) (i : ℕ) → 0 < length (hex_bytes (drop i s)) → (nibble_at s i < 16) × (nibble_at s (i + 1) < 16)
-pair-some s i h = (
-  ⊎_elim (λ l. l) (λ g. absurd (omega (arith, ap length (pair-first s i g)))) (lt-or-le (nibble_at s i) 16),
-  ⊎_elim (λ l. l) (λ g. absurd (omega (arith, ap length (pair-second s i g)))) (lt-or-le (nibble_at s (i + 1)) 16),
-)
+pub not-second : (r : List ℕ) → 15 < nibble (get_or r 1 0) → None ≡ first_byte r
+not-second [] h = refl
+not-second (a ∷ []) h = refl
+not-second (a ∷ (b ∷ r)) h = rw (le-ltb (nibble b) 16 h, and_no)
+
+pub both : (r : List ℕ) (x y : ℕ) → 2 ≤ length r → x < 16 → y < 16 → nibble (get_or r 0 0) ≡ x → nibble (get_or r 1 0) ≡ y → Some (x * 16 + y) ≡ first_byte r
+both [] x y l h k e f = absurd (omega arith)
+both (a ∷ []) x y l h k e f = absurd (omega arith)
+both (a ∷ (b ∷ r)) x y l h k e f = rw (e, f, lt-ltb x 16 h, lt-ltb y 16 k)
+
+-- what is read from the start of r
+by-test : (t : Bool) (x y : ℕ) (r : List ℕ) → pick t (Some x) None ≡ Some y → pick t (x ∷ r) [] ≡ y ∷ r
+by-test true x y r e = ap (λ (z : ℕ). z ∷ r) (same_Some x y e)
+by-test false x y r e = absurd (none-some y e)
+
+by-none : (t : Bool) (x : ℕ) (r : List ℕ) → pick t (Some x) None ≡ None → pick t (x ∷ r) [] ≡ []
+by-none true x r e = absurd (none-some x (sym e))
+by-none false x r e = refl
+
+pub read_none : (r : List ℕ) → first_byte r ≡ None → hex_bytes r ≡ []
+unfolding hex_bytes
+read_none [] e = refl
+read_none (a ∷ []) e = refl
+read_none (a ∷ (b ∷ r)) e = by-none (ltb (nibble a) 16 && ltb (nibble b) 16) (nibble a * 16 + nibble b) (hex_bytes r) e
+
+read_some : (r : List ℕ) (x : ℕ) → first_byte r ≡ Some x → hex_bytes r ≡ x ∷ hex_bytes (drop 2 r)
+unfolding hex_bytes
+read_some [] x e = absurd (none-some x e)
+read_some (a ∷ []) x e = absurd (none-some x e)
+read_some (a ∷ (b ∷ r)) x e = by-test (ltb (nibble a) 16 && ltb (nibble b) 16) (nibble a * 16 + nibble b) x (hex_bytes r) e
+
+-- the end of the reading of s, and a turn of it
+module _ (s : List ℕ) (j : ℕ) where
+  pub read_end : length s / 2 ≤ j → hex_bytes (drop (2 * j) s) ≡ []
+  read_end h = read_none (drop (2 * j) s) (none-short (drop (2 * j) s) (omega (arith, length-drop (2 * j) s)))
+
+  pub read_more : (x : ℕ) → first_byte (drop (2 * j) s) ≡ Some x → hex_bytes (drop (2 * j) s) ≡ x ∷ hex_bytes (drop (2 * (j + 1)) s)
+  read_more x e =
+      let k : 2 * j + 2 ≡ 2 * (j + 1) = omega arith in
+      read_some (drop (2 * j) s) x e ∙ rw (drop-drop 2 (2 * j) s, k) refl
 
 -- two digits a byte
 pub halves : (xs : List ℕ) → 2 * length (hex_bytes xs) ≤ length xs
@@ -119,14 +170,19 @@ halves (a ∷ (b ∷ r)) = ⊎_elim
 
 -- ---- what reading into a lent buffer answers
 
-module _ (s out : List ℕ) (at n : ℕ) (e : n ≡ length (hex_bytes (drop at s))) where
-  pub answer-all : n ≤ length out → (Are n (at + 2 * n) ≡ hex_answer s at out) × (sets out 0 (hex_bytes (drop at s)) ≡ put_bytes out 0 (hex_bytes (drop at s)))
-  unfolding hex_answer
-  answer-all h = (rw (← e, le-leb n (length out) h), (room out 0 n (hex_bytes (drop at s)) e (omega arith)).1)
+-- t is the text from the place on
+module _ (s t out : List ℕ) (at n : ℕ) (here : t ≡ drop at s) (e : n ≡ length (hex_bytes t)) where
+  pub answer-all : n ≤ length out → (Some (n, at + 2 * n) ≡ hex_answer s at out) × (sets out 0 (hex_bytes t) ≡ put_bytes out 0 (hex_bytes (drop at s)))
+  unfolding hex_answer put_bytes
+  answer-all h =
+      let l : 0 + length (hex_bytes t) ≤ length out = omega arith in
+      (rw (← here, ← e, le-leb n (length out) h), rw (← here, le-leb (0 + length (hex_bytes t)) (length out) l))
 
-  pub answer-none : length out < n → (NoRoom ≡ hex_answer s at out) × (out ≡ put_bytes out 0 (hex_bytes (drop at s)))
-  unfolding hex_answer
-  answer-none h = (rw (← e, lt-leb n (length out) h), (no_room out 0 n (hex_bytes (drop at s)) e (omega arith)).1)
+  pub answer-none : length out < n → (None ≡ hex_answer s at out) × (out ≡ put_bytes out 0 (hex_bytes (drop at s)))
+  unfolding hex_answer put_bytes
+  answer-none h =
+      let l : length out < 0 + length (hex_bytes t) = omega arith in
+      (rw (← here, ← e, lt-leb n (length out) h), rw (← here, lt-leb (0 + length (hex_bytes t)) (length out) l))
 
 -- ---- reading what was written
 

@@ -2,41 +2,29 @@
 use Prim.Native.Nat.{ℕ, suc, ◌+◌, ◌*◌, ◌^◌, ◌≤◌, ◌<◌}
 use mathlib.Core.Path.{◌≡◌, refl, sym, ap, subst, ◌∙◌}
 use mathlib.Core.List.{List, [], ◌∷◌, ◌++◌}
-use mathlib.Core.Bool.{Bool, true, false}
+use mathlib.Core.Bool.{Bool, true, false, ◌&&◌}
 use native.Mathlib.Omega.{arith}
 use native.Mathlib.Numerals.{add-one}
 use lib.Arith.{digits_lt}
 use lib.Pow.{pow-add, pow_mono}
 use lib.Dec.{ltb, eqb}
-use lib.ListN.{length, get_or, drop, set, take, length-drop, drop_of_length-le}
-use lib.Seq.{sets, drop-cons, take_all}
-use borrow.Author.Tests.{lt-ltb, le-ltb, eq-eqb, ne_eqb, eqb-true}
+use lib.ListN.{length, get_or, drop, take, length-drop, drop_of_length-le}
+use lib.Seq.{drop-cons, take_all}
+use borrow.Author.Tests.{lt-ltb, le-ltb, eq-eqb, ne_eqb, eqb-true, eqb-false}
+use Rattle.std.specs.List.{starts_with}
 use Rattle.whole.specs.Choice.{pick}
 use Rattle.text.specs.Word.{Letters, NoLetter, begins, letters, coded, code_of, word_of, first_code, second_code}
 
--- stores
-pub sets_more : (l w : List ℕ) (at j : ℕ) → j < length w → sets l (at + j) (drop j w) ≡ sets (set l (at + j) (get_or w j 0)) (at + (j + 1)) (drop (j + 1) w)
-sets_more l w at j h =
-    let e : at + (j + 1) ≡ suc (at + j) = omega arith in
-    rw (e, add-one j, drop-cons w j 0 h)
+starts-by : (x y : ℕ) (t : Bool) (a b : Bool) → eqb x y ≡ t → a ≡ b → (eqb y x && a) ≡ pick t b false
+starts-by x y true a b h e = rw (eq-eqb y x (sym (eqb-true x y h))) e
+starts-by x y false a b h e = rw (ne_eqb y x (λ k. eqb-false x y h (sym k))) refl
 
--- a word at the place i of s, from its place j on
-module _ (s w : List ℕ) (i j : ℕ) where
-  pub begins-end : length w ≤ j → begins (drop i s) (drop j w) ≡ true
-  unfolding begins
-  begins-end h = rw (drop_of_length-le w h)
-
-  pub begins-past : j < length w → length s ≤ i → begins (drop i s) (drop j w) ≡ false
-  unfolding begins
-  begins-past h g = rw (drop_of_length-le s g, drop-cons w j 0 h)
-
-  pub begins-other : j < length w → i < length s → (get_or s i 0 ≡ get_or w j 0 → ⊥) → begins (drop i s) (drop j w) ≡ false
-  unfolding begins
-  begins-other h g n = rw (drop-cons s i 0 g, drop-cons w j 0 h) (simp (ne_eqb (get_or s i 0) (get_or w j 0) n))
-
-  pub begins-same : j < length w → i < length s → get_or s i 0 ≡ get_or w j 0 → begins (drop i s) (drop j w) ≡ begins (drop (i + 1) s) (drop (j + 1) w)
-  unfolding begins
-  begins-same h g e = rw (add-one i, add-one j, drop-cons s i 0 g, drop-cons w j 0 h) (simp (eq-eqb (get_or s i 0) (get_or w j 0) e))
+-- the test of the library
+pub starts : (xs w : List ℕ) → starts_with eqb xs w ≡ begins xs w
+unfolding begins
+starts xs [] = refl
+starts [] (y ∷ w) = refl
+starts (x ∷ xs) (y ∷ w) = starts-by x y (eqb x y) (starts_with eqb xs w) (begins xs w) refl (starts xs w)
 
 pub begins-word : (w r : List ℕ) → begins (w ++ r) w ≡ true
 unfolding begins
@@ -53,18 +41,18 @@ word-begins (y ∷ w) (x ∷ xs) e = by-test (eqb x y) refl e (word-begins w xs)
     by-test true h k f = let a = eqb-true x y h in let b = f k in cc
     by-test false h k f = let z : ◌≡◌ {A = ℕ} 0 1 = cc in absurd (omega arith)
 
-module _ (s : List ℕ) (i : ℕ) where
-  pub letters-end : length s ≤ i → letters (drop i s) ≡ 0
-  unfolding letters
-  letters-end h = rw (drop_of_length-le s h)
+-- what `letters` is where there is a space, and where there is none
+pub letters_space : (x : ℕ) (xs : List ℕ) → x < 33 → letters (x ∷ xs) ≡ 0
+unfolding letters
+letters_space x xs h = rw (lt-ltb x 33 h)
 
-  pub letters-space : i < length s → get_or s i 0 < 33 → letters (drop i s) ≡ 0
-  unfolding letters
-  letters-space h e = rw (drop-cons s i 0 h) (simp (lt-ltb (get_or s i 0) 33 e))
+pub letters_more : (x : ℕ) (xs : List ℕ) → 33 ≤ x → letters (x ∷ xs) ≡ letters xs + 1
+unfolding letters
+letters_more x xs h = rw (le-ltb x 33 h, add-one (letters xs))
 
-  pub letters-more : i < length s → 33 ≤ get_or s i 0 → letters (drop i s) ≡ suc (letters (drop (i + 1) s))
-  unfolding letters
-  letters-more h n = rw (add-one i, drop-cons s i 0 h) (simp (le-ltb (get_or s i 0) 33 n))
+pub letters_none : letters [] ≡ 0
+unfolding letters
+letters_none = refl
 
 pub coded-more : (w : List ℕ) (i v : ℕ) → i < length w → coded (drop i w) v ≡ coded (drop (i + 1) w) (v * 256 + get_or w i 0)
 unfolding coded

@@ -1,25 +1,24 @@
 // Text for programs: numbers in decimal, the ends of a range, words, and bytes in hexadecimal.
 #![tactic(auto)]
 
-ghost use Rattle.std.specs.Prelude.{◌≡◌};
+ghost use Rattle.std.specs.Prelude.{◌≡◌, ◌+◌, ◌≤◌, length, drop, SomeIff};
 
 pub mod decimal;
 pub mod end;
 pub mod hex;
 pub mod word;
 
-// What putting bytes at a place of a lent buffer answers.
-#[derive(Clone, Copy)]
-pub enum Put {
-    // The place after them.
-    Next(usize),
-    // They don't fit, and the buffer is kept.
-    NoRoom,
+// The place after `k` bytes that are put at a place of a lent buffer, if they fit.
+fn end_at(out: &[u8], at: usize, k: usize) -> Option<usize>
+    ensures { SomeIff result (at + k ≤ length out.now) (at + k) }
+{
+    let end = at.checked_add(k)?;
+    if end <= out.len() { Some(end) } else { None }
 }
 
-// A byte as a number that sums don't overflow.
-fn wide(b: u8) -> u64
-    ensures { result ≡ b }
+// The bytes from a place on; past the end there are none.
+fn rest(s: &[u8], at: usize) -> &[u8]
+    ensures { result.now ≡ drop at s.now }
 {
-    b as u64
+    s.get(at..).unwrap_or(&[])
 }

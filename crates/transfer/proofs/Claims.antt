@@ -7,10 +7,11 @@ use native.Mathlib.Omega.{arith}
 use lib.IntN.{ℤ, pos}
 use lib.Signed.{◌≤ℤ◌, ◌<ℤ◌}
 use mir.Syntax.{w64}
+use Rattle.std.specs.declared.cmp.Ordering.{Ordering}
+use Rattle.std.specs.Prelude.{None, Option, Some}
+use Rattle.std.specs.declared.cmp.Ordering.TheVariants.{Equal, Greater, Less}
 use Rattle.whole.specs.Choice.{pick}
 use Rattle.whole.specs.Test.{◌≤?◌, ◌<?◌, ◌≟◌}
-use Rattle.whole.specs.declared.Order.{Order}
-use Rattle.whole.specs.declared.Order.TheVariants.{Less, Equal, Greater, None}
 use Rattle.whole.proofs.Decides.{le_test, lt_test, both, either, is_false, yes}
 use Rattle.whole.proofs.Shapes.{lin}
 use Rattle.refusal.specs.Answer as answers
@@ -25,6 +26,7 @@ use Rattle.congruence.specs.Set as S
 use Rattle.congruence.specs.Ported as C
 use Rattle.transfer.specs.Operator.{outside?, one?, two?, other}
 use Rattle.transfer.specs.Refuses.{Refuses, range_number, spacing_number}
+use Rattle.transfer.specs.Order.{by_order}
 use Rattle.transfer.specs.Ranges.{range_by, interval_binary, interval_unary}
 use Rattle.transfer.specs.Ranges as range
 use Rattle.transfer.specs.Spacings.{spacing_on, binary_within, congruence_binary, unary_within, congruence_unary}
@@ -61,19 +63,19 @@ congruence-operators-1 a = (refl, refl)
 
 -- what 001 reads out of the weak order for <= and >= is what the order's own definitions say
 pub weak-agrees : (a b : Interval) → (interval_binary (pos 12) a b ≡ is (I.le_by (I.weak_cmp a b))) × (interval_binary (pos 13) a b ≡ is (I.ge_by (I.weak_cmp a b)))
-unfolding interval_binary range_by I.le_by I.ge_by ◌≟◌
+unfolding interval_binary by_order I.le_by I.ge_by ◌≟◌
 weak-agrees a b = (ap is (le (I.weak_cmp a b)), ap is (ge (I.weak_cmp a b)))
   where
-    le : (o : Order) → range_by o range.yes range.yes range.no ≡ I.le_by o
-    le Less = refl
-    le Equal = refl
-    le Greater = refl
+    le : (o : Option Ordering) → range_by o range.yes range.yes range.no ≡ I.le_by o
+    le (Some Less) = refl
+    le (Some Equal) = refl
+    le (Some Greater) = refl
     le None = refl
 
-    ge : (o : Order) → range_by o range.no range.yes range.yes ≡ I.ge_by o
-    ge Less = refl
-    ge Equal = refl
-    ge Greater = refl
+    ge : (o : Option Ordering) → range_by o range.no range.yes range.yes ≡ I.ge_by o
+    ge (Some Less) = refl
+    ge (Some Equal) = refl
+    ge (Some Greater) = refl
     ge None = refl
 
 -- ---- by which number, and exactly when: 1 outside 2 to 15 and outside the domain, 4 for an operator of the other shape

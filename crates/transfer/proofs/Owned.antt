@@ -4,11 +4,10 @@ use Prim.Native.Nat.{ℕ}
 use lib.IntN.{ℤ, pos}
 use lib.Signed.{quot_z}
 use mir.Syntax.{w64}
+use Rattle.std.specs.Prelude.{None, Option, Some}
 use Rattle.whole.specs.Choice.{pick}
 use Rattle.whole.specs.Test.{◌≟◌, ◌<?◌}
 use Rattle.whole.specs.Range.{least}
-use Rattle.whole.specs.declared.Exact.{Exact}
-use Rattle.whole.specs.declared.Exact.TheVariants as exact
 use Rattle.refusal.specs.Answer as answers
 use Rattle.interval.specs.declared.Interval.{Interval}
 use Rattle.interval.specs.Set.{◌∈?◌, top, is_bottom, is_only}
@@ -40,10 +39,10 @@ sub a b = go (I.neg b) (neg b)
     go (is v) h = value
     go (refused n) h = h
 
-large : (a : Interval) (m : Exact) → Own (range_number (I.rem_large a m))
+large : (a : Interval) (m : Option ℤ) → Own (range_number (I.rem_large a m))
 unfolding I.rem_large
-large a (exact.Is m) = value
-large a exact.DoesNotFit = wide
+large a (Some m) = value
+large a None = wide
 
 pub rem : (a b : Interval) → Own (range_number (I.rem a b))
 unfolding I.rem
@@ -61,11 +60,11 @@ abbrev truth_number : answers.Answer Bool → ℕ
 truth_number (answers.is t) = 0
 truth_number (answers.refused n) = n
 
-made : (c m : Exact) → Own (spacing_number (C.made c m))
+made : (c m : Option ℤ) → Own (spacing_number (C.made c m))
 unfolding C.made
-made c exact.DoesNotFit = wide
-made exact.DoesNotFit (exact.Is m) = wide
-made (exact.Is c) (exact.Is m) = value
+made c None = wide
+made None (Some m) = wide
+made (Some c) (Some m) = value
 
 held : (c m : ℤ) → Own (spacing_number (C.held c m))
 unfolding C.held
@@ -75,11 +74,11 @@ held c m = go ((m ≟ pos 0) || (c <? m)) _
     go true v = value
     go false v = asserts
 
-asserted : (c m : Exact) → Own (spacing_number (C.asserted c m))
+asserted : (c m : Option ℤ) → Own (spacing_number (C.asserted c m))
 unfolding C.asserted
-asserted exact.DoesNotFit m = wide
-asserted (exact.Is c) exact.DoesNotFit = wide
-asserted (exact.Is c) (exact.Is m) = held c m
+asserted None m = wide
+asserted (Some c) None = wide
+asserted (Some c) (Some m) = held c m
 
 -- a value, or an answer of these
 first : (p : Bool) (v : Congruence) (r : answers.Answer Congruence) → Own (spacing_number r) → Own (spacing_number (pick p (answers.is v) r))
@@ -121,11 +120,11 @@ on_truth (answers.is true) u v h = value
 on_truth (answers.is false) u v h = value
 on_truth (answers.refused n) u v h = h
 
-indivisible : (d g : Exact) → Own (truth_number (C.indivisible d g))
+indivisible : (d g : Option ℤ) → Own (truth_number (C.indivisible d g))
 unfolding C.indivisible
-indivisible d exact.DoesNotFit = wide
-indivisible exact.DoesNotFit (exact.Is g) = wide
-indivisible (exact.Is d) (exact.Is g) = value
+indivisible d None = wide
+indivisible None (Some g) = wide
+indivisible (Some d) (Some g) = value
 
 separated : (a b : Congruence) → Own (truth_number (C.separated a b))
 unfolding C.separated

@@ -1,4 +1,5 @@
 pub mod Operator
+pub mod Order
 pub mod Ranges
 pub mod Spacings
 pub mod Refuses

@@ -1,10 +1,9 @@
 -- The transfers of 001, by its text: what each operator answers on intervals.
-use Rattle.std.specs.Prelude.{ℤ, pos}
+use Rattle.std.specs.declared.cmp.Ordering.{Ordering}
+use Rattle.std.specs.Prelude.{ℤ, pos, Option}
 use Rattle.std.specs.Int.{w64}
 use Rattle.whole.specs.Choice.{pick}
 use Rattle.whole.specs.Test.{◌≟◌}
-use Rattle.whole.specs.declared.Order.{Order}
-use Rattle.whole.specs.declared.Order.TheVariants.{Less, Equal, Greater, None}
 use Rattle.refusal.specs.Number.{number_of}
 use Rattle.interval.specs.declared.Interval.{Interval}
 use Rattle.interval.specs.Set.{◌⋯◌, top, single}
@@ -12,6 +11,7 @@ use Rattle.refusal.specs.Answer.{Answer, is, refused}
 use Rattle.interval.specs.Mended.{and_v, or_v, not_v}
 use Rattle.interval.specs.Ported.{add, sub, mul, rem, strict_cmp, weak_cmp, equal_by}
 use Rattle.transfer.specs.Operator.{other}
+use Rattle.transfer.specs.Order.{by_order}
 
 abbrev pub yes : Interval
 yes = single (pos 1)
@@ -20,11 +20,8 @@ abbrev pub no : Interval
 no = single (pos 0)
 
 -- what is shown for each order, and both where there is none
-unfoldable pub range_by : Order → (less equal greater : Interval) → Interval
-range_by Less less equal greater = less
-range_by Equal less equal greater = equal
-range_by Greater less equal greater = greater
-range_by None less equal greater = pos 0 ⋯ pos 1
+abbrev pub range_by : Option Ordering → (less equal greater : Interval) → Interval
+range_by order less equal greater = by_order order less equal greater (pos 0 ⋯ pos 1)
 
 -- add, sub, mul, div, mod, =, and, or, <, >, <=, >=
 unfoldable pub interval_binary : ℤ → Interval → Interval → Answer Interval

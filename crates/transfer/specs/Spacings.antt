@@ -1,9 +1,8 @@
 -- The transfers of 002, by its text: what each operator answers on congruences. Outside the domain all are refused by 1, first of all.
-use Rattle.std.specs.Prelude.{◌&&◌, ℤ, pos}
+use Rattle.std.specs.declared.cmp.Ordering.{Ordering}
+use Rattle.std.specs.Prelude.{◌&&◌, ℤ, pos, Option}
 use Rattle.whole.specs.Choice.{pick}
 use Rattle.whole.specs.Test.{◌≟◌}
-use Rattle.whole.specs.declared.Order.{Order}
-use Rattle.whole.specs.declared.Order.TheVariants.{Less, Equal, Greater, None}
 use Rattle.refusal.specs.Number.{number_of}
 use Rattle.refusal.specs.Answer.{Answer, is, refused}
 use Rattle.congruence.specs.declared.Congruence.{Congruence}
@@ -11,6 +10,7 @@ use Rattle.congruence.specs.Set.{cong, top, domain?}
 use Rattle.congruence.specs.Answer.{within}
 use Rattle.congruence.specs.Ported.{add, sub, mul, div, equals, logical_and, logical_or, logical_not, strict_cmp}
 use Rattle.transfer.specs.Operator.{other}
+use Rattle.transfer.specs.Order.{by_order}
 
 abbrev pub yes : Congruence
 yes = cong (pos 1) (pos 0)
@@ -19,13 +19,10 @@ abbrev pub no : Congruence
 no = cong (pos 0) (pos 0)
 
 -- what is shown for each order, and top where there is none
-unfoldable pub spacing_by : Order → (less equal greater : Congruence) → Congruence
-spacing_by Less less equal greater = less
-spacing_by Equal less equal greater = equal
-spacing_by Greater less equal greater = greater
-spacing_by None less equal greater = top
+abbrev pub spacing_by : Option Ordering → (less equal greater : Congruence) → Congruence
+spacing_by order less equal greater = by_order order less equal greater top
 
-unfoldable pub spacing_on : Answer Order → (less equal greater : Congruence) → Answer Congruence
+unfoldable pub spacing_on : Answer (Option Ordering) → (less equal greater : Congruence) → Answer Congruence
 spacing_on (is o) less equal greater = is (spacing_by o less equal greater)
 spacing_on (refused n) less equal greater = refused n
 

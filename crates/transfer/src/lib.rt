@@ -1,119 +1,101 @@
 // The transfers of the two analyses, ported: what an operator, by its number in a sheet, does to intervals and to congruences.
 #![tactic(auto)]
 
-ghost use Rattle.std.specs.Prelude.{◌≡◌, ℤ};
-ghost use Rattle.interval.specs.Answer.{told};
-ghost use Rattle.congruence.specs.Answer.{told as spacing_told, order_told};
+ghost use Rattle.refusal.specs.Answer.{told};
+ghost use Rattle.std.specs.Prelude.{◌≡◌, ℤ, Ok, Some};
 ghost use Rattle.transfer.specs.Operator.{other};
-ghost use Rattle.transfer.specs.Ranges.{range_by, interval_binary, interval_unary};
-ghost use Rattle.transfer.specs.Spacings.{spacing_by, spacing_on, binary_within, unary_within, congruence_binary, congruence_unary};
+ghost use Rattle.transfer.specs.Order.{by_order};
+ghost use Rattle.transfer.specs.Ranges.{interval_binary, interval_unary};
+ghost use Rattle.transfer.specs.Spacings.{spacing_on, binary_within, unary_within, congruence_binary, congruence_unary};
 
-use congruence::{Congruence, CongruenceAnswer, OrderAnswer};
-use interval::{BOOL_RANGE, FALSE_RANGE, Interval, IntervalAnswer, TRUE_RANGE};
+use congruence::Congruence;
+use interval::{BOOL_RANGE, FALSE_RANGE, Interval, TRUE_RANGE};
 use refusal::Refusal;
-use whole::Order;
+use std::cmp::Ordering;
+
+// Operators stay numbers: interval_binary promises an answer for every i64; `natural`, since a signed match names no fact.
 
 // The refusal of an operator on which the Rust panics: 4, and 1 for one outside 2 to 15.
 fn other(op: i64) -> Refusal
     ensures { result ≡ other op }
 {
-    if op < 2 {
-        return Refusal::NotInDomain;
+    if op < 2 || op > 15 {
+        Refusal::NotInDomain
+    } else {
+        Refusal::WouldPanic
     }
-    if op > 15 {
-        return Refusal::NotInDomain;
+}
+
+// What a comparison shows where the left side is less, equal, greater, and where the order isn't known.
+#[tactic(auto, unfolding(crate::specs::Order::by_order))]
+fn by_order<T: Copy>(order: Option<Ordering>, less: T, equal: T, greater: T, unknown: T) -> T
+    ensures { result ≡ by_order order less equal greater unknown }
+{
+    match order {
+        Some(Ordering::Less) => less,
+        Some(Ordering::Equal) => equal,
+        Some(Ordering::Greater) => greater,
+        None => unknown,
     }
-    Refusal::WouldPanic
 }
 
 // ---- intervals: every pair is in the domain
 
-// What a comparison shows where the left side is less, equal, greater; both where the order isn't known.
-fn range_by(order: Order, less: Interval, equal: Interval, greater: Interval) -> Interval
-    ensures { result ≡ range_by order less equal greater }
-{
-    match order {
-        Order::Less => less,
-        Order::Equal => equal,
-        Order::Greater => greater,
-        Order::None => BOOL_RANGE,
-    }
-}
-
-pub fn interval_binary(op: i64, a: Interval, b: Interval) -> IntervalAnswer
+pub fn interval_binary(op: i64, a: Interval, b: Interval) -> Result<Interval, Refusal>
     ensures { told result ≡ interval_binary op a b }
 {
     let strict = interval::ported::strict_cmp(a, b);
     let weak = interval::ported::weak_cmp(a, b);
     match whole::natural(op) {
-        2 => IntervalAnswer::Is(interval::ported::add(a, b)),
+        2 => Ok(interval::ported::add(a, b)),
         3 => interval::ported::sub(a, b),
-        4 => IntervalAnswer::Is(interval::ported::mul(a, b)),
-        5 => IntervalAnswer::Is(Interval::TOP),
+        4 => Ok(interval::ported::mul(a, b)),
+        5 => Ok(Interval::TOP),
         6 => interval::ported::rem(a, b),
-        7 => IntervalAnswer::Is(interval::ported::equals(a, b)),
-        8 => IntervalAnswer::Is(interval::ported::logical_and(a, b)),
-        9 => IntervalAnswer::Is(interval::ported::logical_or(a, b)),
-        10 => IntervalAnswer::Is(range_by(strict, TRUE_RANGE, FALSE_RANGE, FALSE_RANGE)),
-        11 => IntervalAnswer::Is(range_by(strict, FALSE_RANGE, FALSE_RANGE, TRUE_RANGE)),
-        12 => IntervalAnswer::Is(range_by(weak, TRUE_RANGE, TRUE_RANGE, FALSE_RANGE)),
-        13 => IntervalAnswer::Is(range_by(weak, FALSE_RANGE, TRUE_RANGE, TRUE_RANGE)),
-        _ => IntervalAnswer::Refused(other(op)),
+        7 => Ok(interval::ported::equals(a, b)),
+        8 => Ok(interval::ported::logical_and(a, b)),
+        9 => Ok(interval::ported::logical_or(a, b)),
+        10 => Ok(by_order(strict, TRUE_RANGE, FALSE_RANGE, FALSE_RANGE, BOOL_RANGE)),
+        11 => Ok(by_order(strict, FALSE_RANGE, FALSE_RANGE, TRUE_RANGE, BOOL_RANGE)),
+        12 => Ok(by_order(weak, TRUE_RANGE, TRUE_RANGE, FALSE_RANGE, BOOL_RANGE)),
+        13 => Ok(by_order(weak, FALSE_RANGE, TRUE_RANGE, TRUE_RANGE, BOOL_RANGE)),
+        _ => Err(other(op)),
     }
 }
 
-pub fn interval_unary(op: i64, a: Interval) -> IntervalAnswer
+pub fn interval_unary(op: i64, a: Interval) -> Result<Interval, Refusal>
     ensures { told result ≡ interval_unary op a }
 {
     match whole::natural(op) {
-        14 => IntervalAnswer::Is(interval::ported::logical_not(a)),
-        15 => IntervalAnswer::Is(a),
-        _ => IntervalAnswer::Refused(other(op)),
+        14 => Ok(interval::ported::logical_not(a)),
+        15 => Ok(a),
+        _ => Err(other(op)),
     }
 }
 
 // ---- congruences: outside the domain refused by 1, before the operator is looked at
 
-const FALSE: Congruence = Congruence {
-    constant: 0,
-    modulus: 0,
-};
+// Short, so that an arm is a line.
+const FALSE: Congruence = Congruence::FALSE;
 
-const TRUE: Congruence = Congruence {
-    constant: 1,
-    modulus: 0,
-};
+const TRUE: Congruence = Congruence::TRUE;
 
-// What a comparison shows where the left side is less, equal, greater; top where the order isn't known.
-fn spacing_by(order: Order, less: Congruence, equal: Congruence, greater: Congruence) -> Congruence
-    ensures { result ≡ spacing_by order less equal greater }
-{
-    match order {
-        Order::Less => less,
-        Order::Equal => equal,
-        Order::Greater => greater,
-        Order::None => Congruence::TOP,
-    }
-}
-
-// The same of an order that may be refused.
+// What a comparison shows by an order that may be refused; top where it isn't known.
+#[tactic(auto, unfolding(crate::specs::Spacings::spacing_on))]
 fn spacing_on(
-    order: OrderAnswer,
+    order: Result<Option<Ordering>, Refusal>,
     less: Congruence,
     equal: Congruence,
     greater: Congruence,
-) -> CongruenceAnswer
-    ensures { spacing_told result ≡ spacing_on (order_told order) less equal greater }
+) -> Result<Congruence, Refusal>
+    ensures { told result ≡ spacing_on (told order) less equal greater }
 {
-    match order {
-        OrderAnswer::Is(o) => CongruenceAnswer::Is(spacing_by(o, less, equal, greater)),
-        OrderAnswer::Refused(r) => CongruenceAnswer::Refused(r),
-    }
+    Ok(by_order(order?, less, equal, greater, Congruence::TOP))
 }
 
 // On values of the domain.
-fn binary_within(op: i64, a: Congruence, b: Congruence) -> CongruenceAnswer
-    ensures { spacing_told result ≡ binary_within op a b }
+fn binary_within(op: i64, a: Congruence, b: Congruence) -> Result<Congruence, Refusal>
+    ensures { told result ≡ binary_within op a b }
 {
     let order = congruence::ported::strict_cmp(a, b);
     match whole::natural(op) {
@@ -121,7 +103,7 @@ fn binary_within(op: i64, a: Congruence, b: Congruence) -> CongruenceAnswer
         3 => congruence::ported::sub(a, b),
         4 => congruence::ported::mul(a, b),
         5 => congruence::ported::div(a, b),
-        6 => CongruenceAnswer::Is(Congruence::TOP),
+        6 => Ok(Congruence::TOP),
         7 => congruence::ported::equals(a, b),
         8 => congruence::ported::logical_and(a, b),
         9 => congruence::ported::logical_or(a, b),
@@ -129,39 +111,37 @@ fn binary_within(op: i64, a: Congruence, b: Congruence) -> CongruenceAnswer
         11 => spacing_on(order, FALSE, FALSE, TRUE),
         12 => spacing_on(order, TRUE, TRUE, FALSE),
         13 => spacing_on(order, FALSE, TRUE, TRUE),
-        _ => CongruenceAnswer::Refused(other(op)),
+        _ => Err(other(op)),
     }
 }
 
-pub fn congruence_binary(op: i64, a: Congruence, b: Congruence) -> CongruenceAnswer
-    ensures { spacing_told result ≡ congruence_binary op a b }
+pub fn congruence_binary(op: i64, a: Congruence, b: Congruence) -> Result<Congruence, Refusal>
+    ensures { told result ≡ congruence_binary op a b }
 {
-    if !a.in_domain() {
-        return CongruenceAnswer::Refused(Refusal::NotInDomain);
+    if a.in_domain() && b.in_domain() {
+        binary_within(op, a, b)
+    } else {
+        Err(Refusal::NotInDomain)
     }
-    if !b.in_domain() {
-        return CongruenceAnswer::Refused(Refusal::NotInDomain);
-    }
-    binary_within(op, a, b)
 }
 
 // On a value of the domain.
-fn unary_within(op: i64, a: Congruence) -> CongruenceAnswer
-    ensures { spacing_told result ≡ unary_within op a }
+fn unary_within(op: i64, a: Congruence) -> Result<Congruence, Refusal>
+    ensures { told result ≡ unary_within op a }
 {
     match whole::natural(op) {
         14 => congruence::ported::logical_not(a),
-        15 => CongruenceAnswer::Is(a),
-        _ => CongruenceAnswer::Refused(other(op)),
+        15 => Ok(a),
+        _ => Err(other(op)),
     }
 }
 
-pub fn congruence_unary(op: i64, a: Congruence) -> CongruenceAnswer
-    ensures { spacing_told result ≡ congruence_unary op a }
+pub fn congruence_unary(op: i64, a: Congruence) -> Result<Congruence, Refusal>
+    ensures { told result ≡ congruence_unary op a }
 {
     if a.in_domain() {
         unary_within(op, a)
     } else {
-        CongruenceAnswer::Refused(Refusal::NotInDomain)
+        Err(Refusal::NotInDomain)
     }
 }

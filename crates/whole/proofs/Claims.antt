@@ -7,10 +7,10 @@ use lib.Signed.{◌≤ℤ◌, ◌<ℤ◌}
 use lib.Pow.{pow_pos}
 use mir.Syntax.{Width, w64}
 use mir.Val.{SFits, hbits}
+use Rattle.std.specs.Prelude.{None, Some}
 use Rattle.whole.specs.Range.{least, greatest, clamp}
 use Rattle.whole.specs.Divides.{◌∣ℤ◌, steps, gcd, lcm, Cong, floor_rem}
 use Rattle.whole.specs.Exact.{exactly}
-use Rattle.whole.specs.declared.Exact.TheVariants.{Is, DoesNotFit}
 use Rattle.whole.proofs.Linear.{ints}
 use Rattle.whole.proofs.Fits as Fits
 use Rattle.whole.proofs.Decides.{Beyond, fits-test, is_false, is-fit, not_beyond}
@@ -28,11 +28,11 @@ fits-is-range w z = (λ h. (Fits.low w z h, Fits.high w z h), λ h. Fits.fits w 
 
 -- an exact operation gives the number if it fits, and says that it doesn't if it doesn't
 module _ (w : Width) (z : ℤ) where
-  pub exactly-is : SFits w z → exactly w z ≡ Is z
+  pub exactly-is : SFits w z → exactly w z ≡ Some z
   unfolding exactly
   exactly-is h = rw (is-fit h) refl
 
-  pub exactly-not : Beyond w z → exactly w z ≡ DoesNotFit
+  pub exactly-not : Beyond w z → exactly w z ≡ None
   unfolding exactly
   exactly-not h = rw (is_false (fits-test w z) (λ f. not_beyond {w = w} f h)) refl
 
@@ -63,7 +63,7 @@ module _ (a b : ℕ) where
   lcm-least z p q = CommonDivisor.lcm-least a b p q
 
 -- a common divisor of 2^63 is refused: that of the least number and 0
-pub gcd-of-least : exactly w64 (pos (gcd (nat_abs (least w64)) 0)) ≡ DoesNotFit
+pub gcd-of-least : exactly w64 (pos (gcd (nat_abs (least w64)) 0)) ≡ None
 unfolding gcd steps
 gcd-of-least = exactly-not w64 (pos 9223372036854775808) (inr (omega ints))
 

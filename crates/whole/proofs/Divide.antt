@@ -3,7 +3,7 @@ use mathlib.Core.Path.{◌≡◌, refl, ap, ◌∙◌}
 use mathlib.Core.Logic.{◌≢◌, ◌⊎◌, inl, inr}
 use Prim.Native.Nat.{ℕ, zero, suc, ◌*◌, ◌/◌, ◌%◌, ◌≤◌, ◌<◌}
 use native.Mathlib.Omega.{arith}
-use native.Mathlib.Nat.{div-add-mod', mod-lt, mod-le, le_trans, div-mul-le_self, le-div_iff_mul-le, mul-le-mul_left, div-zero, zero-div, div-le_self, div-lt_self, lt_of_le_of_lt, mod-zero, mod-one, div-one}
+use native.Mathlib.Nat.{div-add-mod', mod-lt, mod-le, le_trans, div-mul-le_self, le-div_iff_mul-le, mul-le-mul_left, div-zero, zero-div, div-le_self, div-lt_self, lt_of_le_of_lt, mod-zero, div-one}
 use lib.IntN.{ℤ, pos, negsuc, neg_ℤ, nat_abs, ◌+ℤ◌, ◌-ℤ◌, ◌*ℤ◌}
 use lib.Pow.{pow_pos}
 use lib.Signed.{◌≤ℤ◌, ◌<ℤ◌, quot_z, rem_z, mag_rem}
@@ -172,9 +172,6 @@ fits-quot-above w x d h k = omega (machine, range h, abs (quot_z x d), nat_abs-q
 pub rem-zero : (x : ℤ) → rem_z x (pos 0) ≡ x
 rem-zero (pos a) = ap pos (mod-zero a)
 rem-zero (negsuc a) = ap (λ t. neg_ℤ (pos t)) (mod-zero (suc a))
-
-pub rem-minus : (x : ℤ) → rem_z x (negsuc 0) ≡ pos 0
-rem-minus x = nat_abs-zero (rem_z x (negsuc 0)) (nat_abs-rem x (negsuc 0) ∙ mod-one (nat_abs x))
 
 pub quot-zero : (x : ℤ) → quot_z x (pos 0) ≡ pos 0
 quot-zero (pos a) = ap pos (div-zero a)

@@ -1,19 +1,17 @@
 -- The floored remainder: it lies from 0 to |m| - 1, differs from x by a multiple of m, and is the only such number.
-use mathlib.Core.Path.{◌≡◌, refl, sym, ap, ◌∙◌, subst}
+use mathlib.Core.Path.{◌≡◌, refl, ap, ◌∙◌, subst}
 use mathlib.Core.Logic.{◌≢◌}
-use Prim.Native.Nat.{ℕ, suc, ◌<◌}
-use native.Mathlib.Nat.{mod-one}
+use Prim.Native.Nat.{ℕ, suc, ◌<◌, ◌/◌}
+use Rattle.std.specs.Int.{int_rem_euclid}
+use native.Mathlib.Nat.{mod-one, mod-lt, div-add-mod'}
 use native.Mathlib.Omega.{arith}
 use lib.IntN.{ℤ, pos, negsuc, neg_ℤ, nat_abs, ◌+ℤ◌, ◌-ℤ◌, ◌*ℤ◌, zero-*ℤ}
 use lib.Signed.{◌≤ℤ◌, ◌<ℤ◌, rem_z, quot_z}
-use mir.Syntax.{Width}
-use mir.Val.{SFits}
 use Rattle.whole.specs.Divides.{◌∣ℤ◌, Cong, floor_rem}
-use Rattle.whole.proofs.Linear.{ints, wholes, read, sum, sub, neg, abs}
+use Rattle.whole.proofs.Linear.{ints, wholes, read, sum, sub, abs, from-≢}
 use Rattle.whole.proofs.Shapes.{lin}
 use Rattle.whole.proofs.Ring.{nat_abs-zero}
-use Rattle.whole.proofs.Decides.{lt_test, branch, is_true, is_false}
-use Rattle.whole.proofs.Fits.{machine, range}
+use Rattle.whole.proofs.Decides.{lt_test, branch, is_false}
 use Rattle.whole.proofs.Divide.{quot-rem, nat_abs-rem, rem-small, rem-zero, small-multiple}
 use Rattle.whole.proofs.Divides.{∣-refl, ∣-+}
 use Rattle.whole.proofs.Congruence.{∣-at, Cong-trans, Cong-sym}
@@ -23,10 +21,6 @@ module _ (x m : ℤ) where
   pub floor-up : pos 0 ≤ℤ rem_z x m → floor_rem x m ≡ rem_z x m
   unfolding floor_rem
   floor-up h = rw (is_false (lt_test (rem_z x m) (pos 0)) (λ k. omega ints)) refl
-
-  pub floor-down : rem_z x m <ℤ pos 0 → floor_rem x m ≡ rem_z x m +ℤ pos (nat_abs m)
-  unfolding floor_rem
-  floor-down h = rw (is_true (lt_test (rem_z x m) (pos 0)) (λ k. omega ints)) refl
 
 pub floor-zero : (x : ℤ) → floor_rem x (pos 0) ≡ x
 unfolding floor_rem
@@ -53,12 +47,12 @@ to-abs (negsuc k) z h = record { by = neg_ℤ h.by; is = turned z h.by (pos (suc
     turned : (z u m : ℤ) → z ≡ u *ℤ neg_ℤ m → z ≡ neg_ℤ u *ℤ m
     turned z u m = rw (read z, read u, read m) (simp wholes (omega arith))
 
+move : (x q m r : ℤ) → x ≡ q *ℤ m +ℤ r → r -ℤ x ≡ neg_ℤ q *ℤ m
+move x q m r = rw (read x, read q, read m, read r) (simp wholes (omega arith))
+
 -- the truncated remainder differs from x by a multiple of m
 pub rem-class : (x m : ℤ) → Cong (nat_abs m) (rem_z x m) x
 rem-class x m = to-abs m (rem_z x m -ℤ x) (record { by = neg_ℤ (quot_z x m); is = move x (quot_z x m) m (rem_z x m) (quot-rem x m) })
-  where
-    move : (x q m r : ℤ) → x ≡ q *ℤ m +ℤ r → r -ℤ x ≡ neg_ℤ q *ℤ m
-    move x q m r = rw (read x, read q, read m, read r) (simp wholes (omega arith))
 
 pub floor-class : (x m : ℤ) → Cong (nat_abs m) (floor_rem x m) x
 unfolding floor_rem
@@ -80,16 +74,25 @@ same-residue n a b h k l m d =
 pub floor-only : (x m r : ℤ) → m ≢ pos 0 → pos 0 ≤ℤ r → r <ℤ pos (nat_abs m) → Cong (nat_abs m) r x → r ≡ floor_rem x m
 floor-only x m r nz h k d = same-residue (nat_abs m) r (floor_rem x m) h k (floor-low x m nz) (floor-high x m nz) (Cong-trans r x (floor_rem x m) d (Cong-sym (floor_rem x m) x (floor-class x m)))
 
--- ---- the code's way: r + m for a positive m, r - m for a negative one
-module _ {w : Width} (x m : ℤ) (q : SFits w m) (d : rem_z x m <ℤ pos 0) (nz : m ≢ pos 0) where
-  pub floor-add-fits : pos 0 <ℤ m → SFits w (rem_z x m +ℤ m)
-  floor-add-fits h = omega (machine, range q, rem-small x m nz, abs (rem_z x m), abs m)
+-- ---- the library's Euclidean remainder is such a number
+module _ (x m : ℤ) (nz : m ≢ pos 0) where
+  size : 0 < nat_abs m
+  size = omega (ints, abs m, from-≢ nz)
 
-  pub floor-add : pos 0 <ℤ m → rem_z x m +ℤ m ≡ floor_rem x m
-  floor-add h = let e : m ≡ pos (nat_abs m) = omega (ints, abs m) in ap (λ t. rem_z x m +ℤ t) e ∙ sym (floor-down x m d)
+  parts : (x : ℤ) → (q : ℤ) × (x ≡ q *ℤ pos (nat_abs m) +ℤ int_rem_euclid x m)
+  parts (pos a) = (pos (a / nat_abs m), simp wholes (omega (arith, div-add-mod' a (nat_abs m))))
+  parts (negsuc a) = (negsuc (a / nat_abs m), simp wholes (omega (arith, div-add-mod' a (nat_abs m), mod-lt a size)))
 
-  pub floor-sub-fits : m <ℤ pos 0 → SFits w (rem_z x m -ℤ m)
-  floor-sub-fits h = omega (machine, range q, rem-small x m nz, abs (rem_z x m), abs m)
+  euclid-class : Cong (nat_abs m) (int_rem_euclid x m) x
+  euclid-class = record { by = neg_ℤ (parts x).0; is = move x (parts x).0 (pos (nat_abs m)) (int_rem_euclid x m) (parts x).1 }
 
-  pub floor-sub : m <ℤ pos 0 → rem_z x m -ℤ m ≡ floor_rem x m
-  floor-sub h = let e : neg_ℤ m ≡ pos (nat_abs m) = omega (ints, abs m, neg m) in ap (λ t. rem_z x m +ℤ t) e ∙ sym (floor-down x m d)
+  euclid-low : (x : ℤ) → pos 0 ≤ℤ int_rem_euclid x m
+  euclid-low (pos a) = omega ints
+  euclid-low (negsuc a) = omega ints
+
+  euclid-high : (x : ℤ) → int_rem_euclid x m <ℤ pos (nat_abs m)
+  euclid-high (pos a) = omega (ints, mod-lt a size)
+  euclid-high (negsuc a) = omega (ints, size)
+
+  pub euclid_is : int_rem_euclid x m ≡ floor_rem x m
+  euclid_is = floor-only x m (int_rem_euclid x m) nz (euclid-low x) (euclid-high x) euclid-class

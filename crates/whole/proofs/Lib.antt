@@ -17,3 +17,4 @@ pub mod Floor
 pub mod Claims
 pub mod Found
 pub mod Sizes
+pub mod Library

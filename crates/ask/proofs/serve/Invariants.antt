@@ -1,4 +1,6 @@
+use Rattle.std.proofs.Common.{◌≤◌, length}
+use Rattle.ask.specs.Waiting.{waiting}
 use Rattle.ask.proofs.serve.Given as goal
 
-abbrev pub decreases-loop-turns : goal.decreases-loop-turns
-decreases-loop-turns g l = l.turns
+abbrev pub invariant-loop : goal.invariant-loop
+invariant-loop g l = waiting l.state ≤ length l.buf

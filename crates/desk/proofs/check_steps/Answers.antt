@@ -1,8 +1,7 @@
-use mathlib.Core.Path.{sym, ap, ◌∙◌}
+use mathlib.Core.Path.{sym, ◌∙◌}
 use native.Mathlib.Omega.{arith}
 use borrow.Author.Rules.{rules}
 use Rattle.whole.specs.Sized.{width_of}
-use Rattle.step.specs.Show.{shown_told}
 use Rattle.desk.proofs.Walk.{walked_start, walked-length, walked_next, walked-stops, walked-ends}
 use Rattle.desk.proofs.check_steps.Goals as goal
 
@@ -25,16 +24,16 @@ pub loop-k-preserved : goal.loop-k-preserved
 loop-k-preserved c =
     let x = c.loop-k in
     let lt = c.loop-k-test.true in
-    (omega arith, walked_next c.args.n c.requires.1 x.invariant.1 lt (omega (arith, c.requires.2)) c.action_at-act.result c.in-Shows.v c.action_at-act.ensures (sym c.shown_of.ensures ∙ ap shown_told c.in-Shows.is) _ c.put.ensures)
+    (omega arith, walked_next c.args.n c.requires.1 x.invariant.1 lt (omega (arith, c.requires.2)) c.action_at-act.result c.in-Ok.v c.action_at-act.ensures (sym c.shown_of.ensures ∙ c.in-Ok.is) _ c.put.ensures)
 
-pub shape_of-room-in-Declines : goal.shape_of-room-in-Declines
-shape_of-room-in-Declines c = walked-length c.loop-k.invariant.1 (omega (arith, c.requires.2, c.loop-k-test.true))
+pub shape_of-room-in-Err : goal.shape_of-room-in-Err
+shape_of-room-in-Err c = walked-length c.loop-k.invariant.1 (omega (arith, c.requires.2, c.loop-k-test.true))
 
-pub returns-in-Declines : goal.returns-in-Declines
-returns-in-Declines c =
+pub returns-in-Err : goal.returns-in-Err
+returns-in-Err c =
     let x = c.loop-k in
     let lt = c.loop-k-test.true in
-    walked-stops c.args.n c.requires.1 x.invariant.1 lt (omega (arith, c.requires.2)) c.action_at-act.result c.in-Declines.r c.action_at-act.ensures (sym c.shown_of.ensures ∙ ap shown_told c.in-Declines.is)
+    walked-stops c.args.n c.requires.1 x.invariant.1 lt (omega (arith, c.requires.2)) c.action_at-act.result c.in-Err.r c.action_at-act.ensures (sym c.shown_of.ensures ∙ c.in-Err.is)
 
 pub shape_of-room : goal.shape_of-room
 shape_of-room c = walked-length c.loop-k.invariant.1 (omega (arith, c.requires.2, c.loop-k.invariant.0))
@@ -42,4 +41,4 @@ shape_of-room c = walked-length c.loop-k.invariant.1 (omega (arith, c.requires.2
 pub returns : goal.returns
 returns c =
     let x = c.loop-k in
-    walked-ends c.args.n c.requires.1 x.invariant.1 c.loop-k-test.false (omega (arith, c.requires.2, x.invariant.0))
+    walked-ends c.args.n c.requires.1 x.invariant.1 c.loop-k-test.false x.invariant.0 (omega (arith, c.requires.2, x.invariant.0))

@@ -1,17 +1,13 @@
-use mir.Syntax.{w64}
-use mir.Val.{SFits}
-use mir.Facts.{to_z-of_z}
+use Prim.Native.Nat.{◌*◌}
+use mathlib.Core.Path.{◌≡◌, refl}
+use native.Mathlib.Omega.{arith}
 use borrow.Author.Rules.{rules}
+use Rattle.desk.specs.Five.{five_of}
+use Rattle.desk.proofs.Fives.{copied}
 use Rattle.desk.proofs.put.Goals as goal
 
 pub returns : goal.returns
 returns c =
-    let i = c.range-range in
-    let s = c.spacing-spacing in
-    let n = c.number_of-number in
-    let f₀ : SFits w64 i.result.min = search rules in
-    let f₁ : SFits w64 i.result.max = search rules in
-    let f₂ : SFits w64 s.result.constant = search rules in
-    let f₃ : SFits w64 s.result.modulus = search rules in
-    let f₄ : SFits w64 n.result = search rules in
-    cc (c.put_five.ensures, to_z-of_z f₀, to_z-of_z f₁, to_z-of_z f₂, to_z-of_z f₃, to_z-of_z f₄, i.ensures, s.ensures, c.sign.ensures, n.ensures)
+    let a = c.args in
+    let five : c.copy_from_slice.new.self ≡ five_of a.v = search rules in
+    rw five (copied a.room.now (five_of a.v) (a.k * 5) refl (omega (arith, c.requires.1)))

@@ -5,13 +5,13 @@ use mir.Facts.{to_z-of_z}
 use borrow.Author.Rules.{rules}
 use Rattle.export.proofs.tunisaypa_gcd.Goals as goal
 
-pub returns-in-Is : goal.returns-in-Is
-returns-in-Is c =
+pub returns-in-Some : goal.returns-in-Some
+returns-in-Some c =
     let e = simp (to_z-of_z c.ranges.a, to_z-of_z c.ranges.b) at c.gcd.ensures in
-    let f : to_z w64 (of_z w64 c.in-Is.g) ≡ c.in-Is.g = search rules in
-    rw (sym e ∙ c.in-Is.is) (rw f at c.put_one.ensures)
+    let f : to_z w64 (of_z w64 c.in-Some.g) ≡ c.in-Some.g = search rules in
+    rw (sym e ∙ c.in-Some.is) (rw f at c.put_one.ensures)
 
-pub returns-in-DoesNotFit : goal.returns-in-DoesNotFit
-returns-in-DoesNotFit c =
+pub returns-in-None : goal.returns-in-None
+returns-in-None c =
     let e = simp (to_z-of_z c.ranges.a, to_z-of_z c.ranges.b) at c.gcd.ensures in
-    rw (sym e ∙ c.in-DoesNotFit.is) (record { status-is = c.number.ensures; room-is = refl })
+    rw (sym e ∙ c.in-None.is) (record { status-is = c.number.ensures; room-is = refl })

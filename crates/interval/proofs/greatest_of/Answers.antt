@@ -3,14 +3,14 @@ use Rattle.whole.proofs.Flags.{flags}
 use Rattle.interval.specs.Ends.{greatest_of}
 use Rattle.interval.proofs.greatest_of.Goals as goal
 
-pub returns-in-Is-y : goal.returns-in-Is-y
+pub returns-in_err-x : goal.returns-in_err-x
 unfolding greatest_of
-returns-in-Is-y c = rw (c.in-Is.is, c.in-Is-y.is) (search (max-called, flags))
+returns-in_err-x c = rw (c.in_err-x.was, c.from_residual.ensures)
 
-pub returns-in-DoesNotFit-y : goal.returns-in-DoesNotFit-y
+pub returns-in_err-y : goal.returns-in_err-y
 unfolding greatest_of
-returns-in-DoesNotFit-y c = cc
+returns-in_err-y c = rw (c.in_ok-x.was, c.in_err-y.was, c.from_residual-in_err-y.ensures)
 
-pub returns-in-DoesNotFit : goal.returns-in-DoesNotFit
+pub returns : goal.returns
 unfolding greatest_of
-returns-in-DoesNotFit c = cc
+returns c = rw (c.in_ok-x.was, c.in_ok-y.was) (search (max-called, flags))

@@ -1,36 +1,36 @@
-use Prim.Native.Nat.{◌*◌, ◌-◌}
-use mathlib.Core.Path.{◌≡◌, refl, sym, ap, ◌∙◌}
+use mathlib.Core.Path.{refl, sym, ◌∙◌}
 use native.Mathlib.Omega.{arith}
+use lib.Seq.{length-take-le}
 use Rattle.whole.specs.Sized.{width_of}
-use Rattle.refusal.specs.Number.{number_of}
 use Rattle.step.specs.Run.{run_op}
-use Rattle.sheet.specs.Answer.{read_told}
-use Rattle.panel.proofs.Answers.{listed, runs-read, runs-refused, read_at, never-short}
+use Rattle.refusal.proofs.Claims.{count-fault}
+use Rattle.panel.proofs.Answers.{listed, runs-read, runs-refused, unread}
 use Rattle.panel.proofs.run_at.Goals as goal
 
-pub returns-then-n-gt256 : goal.returns-then-n-gt256
-returns-then-n-gt256 c =
-    let d = c.read.ensures in
-    let l = listed c.args.bytes.now _ _ c.in-Steps.n (sym (ap read_told c.in-Steps.is) ∙ d.0) d.1 in
-    absurd (omega (arith, l.few, c.if-n-gt256.true))
-
-pub returns-else-n-gt256 : goal.returns-else-n-gt256
-returns-else-n-gt256 c =
+pub returns-in_err-n : goal.returns-in_err-n
+returns-in_err-n c =
     let a = c.args in
-    let d = c.read.ensures in
-    let l = listed a.bytes.now _ _ c.in-Steps.n (sym (ap read_told c.in-Steps.is) ∙ d.0) d.1 in
-    let z : c.in-Steps.n * 4 - 0 ≡ c.in-Steps.n * 4 = omega arith in
-    rw (runs-read (run_op (width_of a.size)) a.bytes.now a.inputs.now a.room.now l.steps l.end l.parsed, ← l.back) (rw z at c.run_listed.ensures)
+    let u = unread a.bytes.now _ _ (omega arith) c.in_err-n.ensures.0 in
+    rw (runs-refused (run_op (width_of a.size)) a.bytes.now a.inputs.now a.room.now u.number u.byte u.parsed) (count-fault c.from_residual.result _ c.from_residual.ensures.1 ∙ u.told, refl)
 
-pub returns-in-RefusedAt : goal.returns-in-RefusedAt
-returns-in-RefusedAt c =
-    let a = c.args in
-    let d = c.read.ensures in
-    let e = read_at a.bytes.now _ (number_of c.in-RefusedAt.r) c.in-RefusedAt.p (sym (ap read_told c.in-RefusedAt.is) ∙ d.0) in
-    rw (runs-refused (run_op (width_of a.size)) a.bytes.now a.inputs.now a.room.now (number_of c.in-RefusedAt.r) c.in-RefusedAt.p e) (refl, refl)
+pub overflow_mul-steps : goal.overflow_mul-steps
+overflow_mul-steps c =
+    let l = listed c.args.bytes.now _ _ c.in_ok-n.n c.in_ok-n.ensures.0 c.in_ok-n.ensures.1 in
+    record { fits = omega (arith, l.few) }
 
-pub returns-in-Refused : goal.returns-in-Refused
-returns-in-Refused c =
+pub slice_bounds-steps-end : goal.slice_bounds-steps-end
+slice_bounds-steps-end c = (listed c.args.bytes.now _ _ c.in_ok-n.n c.in_ok-n.ensures.0 c.in_ok-n.ensures.1).long
+
+pub slice_bounds-run_listed-end : goal.slice_bounds-run_listed-end
+slice_bounds-run_listed-end c = sym (length-take-le _ _ (listed c.args.bytes.now _ _ c.in_ok-n.n c.in_ok-n.ensures.0 c.in_ok-n.ensures.1).long)
+
+pub run_listed-requires : goal.run_listed-requires
+run_listed-requires c =
+    let l = listed c.args.bytes.now _ _ c.in_ok-n.n c.in_ok-n.ensures.0 c.in_ok-n.ensures.1 in
+    (l.few, length-take-le _ _ l.long)
+
+pub returns : goal.returns
+returns c =
     let a = c.args in
-    let d = c.read.ensures in
-    absurd (never-short a.bytes.now _ (number_of c.in-Refused.r) (omega arith) (sym (ap read_told c.in-Refused.is) ∙ d.0))
+    let l = listed a.bytes.now _ _ c.in_ok-n.n c.in_ok-n.ensures.0 c.in_ok-n.ensures.1 in
+    rw (runs-read (run_op (width_of a.size)) a.bytes.now a.inputs.now a.room.now l.steps l.end l.parsed, ← l.back) c.run_listed.ensures

@@ -1,7 +1,7 @@
 use lib.Seq.{length-take-le}
 use mir.Val.{to_z, of_z}
 use Rattle.refusal.specs.Number.{number_of}
-use Rattle.panel.specs.Answer.{stopped, ended_with}
+use Rattle.refusal.specs.Answer.{at_step, done}
 use Prim.Native.Nat.{◌≤◌}
 use mathlib.Core.Path.{◌≡◌, refl, sym, ap, ◌∙◌}
 use native.Mathlib.Omega.{arith}
@@ -31,21 +31,21 @@ loop-k-preserved c =
     let u = c.used-j.ensures in
     let h = few act in
     let lt = c.loop-k-test.true in
-    let e : to_z w64 (of_z w64 c.in-Gives.x) ≡ c.in-Gives.x = search rules in
-    let s = stored x.room c.args.room.now x.k x.invariant.2 x.invariant.3 c.in-Gives.x (omega (arith, c.requires.2)) in
-    let r = run-next c.args.steps.now c.args.n x.k c.requires.1 c.args.inputs.now x.j (run_op (width_of c.args.size)) (take x.k x.room) lt act c.in-Gives.x c.action_at-act.ensures (sym c.in-Gives.is ∙ c.outcome.ensures) in
-    rw e (omega arith, omega arith, length-set x.room x.k c.in-Gives.x ∙ x.invariant.2, s.1, rw (s.0, u) (r ∙ x.invariant.4))
+    let e : to_z w64 (of_z w64 c.in-Ok.x) ≡ c.in-Ok.x = search rules in
+    let s = stored x.room c.args.room.now x.k x.invariant.2 x.invariant.3 c.in-Ok.x (omega (arith, c.requires.2)) in
+    let r = run-next c.args.steps.now c.args.n x.k c.requires.1 c.args.inputs.now x.j (run_op (width_of c.args.size)) (take x.k x.room) lt act c.in-Ok.x c.action_at-act.ensures (sym c.in-Ok.is ∙ c.outcome.ensures) in
+    rw e (omega arith, omega arith, length-set x.room x.k c.in-Ok.x ∙ x.invariant.2, s.1, rw (s.0, u) (r ∙ x.invariant.4))
 
-pub shape_of-room-in-Stops : goal.shape_of-room-in-Stops
-shape_of-room-in-Stops c = c.loop-k.invariant.2
+pub shape_of-room-in-Err : goal.shape_of-room-in-Err
+shape_of-room-in-Err c = c.loop-k.invariant.2
 
-pub returns-in-Stops : goal.returns-in-Stops
-returns-in-Stops c =
+pub returns-in-Err : goal.returns-in-Err
+returns-in-Err c =
     let x = c.loop-k in
     let lt = c.loop-k-test.true in
     let k : x.k ≤ length x.room = omega (arith, c.requires.2, x.invariant.2) in
-    let r = sym x.invariant.4 ∙ run-stops c.args.steps.now c.args.n x.k c.requires.1 c.args.inputs.now x.j (run_op (width_of c.args.size)) (take x.k x.room) lt c.action_at-act.result c.in-Stops.r c.action_at-act.ensures (sym c.in-Stops.is ∙ c.outcome.ensures) in
-    rw r (ap (λ m. stopped m (number_of c.in-Stops.r)) (sym (length-take-le x.k x.room k)), filled x.room c.args.room.now x.k x.invariant.2 x.invariant.3 k)
+    let r = sym x.invariant.4 ∙ run-stops c.args.steps.now c.args.n x.k c.requires.1 c.args.inputs.now x.j (run_op (width_of c.args.size)) (take x.k x.room) lt c.action_at-act.result c.in-Err.r c.action_at-act.ensures (sym c.in-Err.is ∙ c.outcome.ensures) in
+    rw r (ap (λ m. at_step (number_of c.in-Err.r) m) (sym (length-take-le x.k x.room k)), filled x.room c.args.room.now x.k x.invariant.2 x.invariant.3 k)
 
 pub shape_of-room : goal.shape_of-room
 shape_of-room c = c.loop-k.invariant.2
@@ -55,4 +55,5 @@ returns c =
     let x = c.loop-k in
     let k : x.k ≤ length x.room = omega (arith, c.requires.2, x.invariant.2) in
     let r = sym x.invariant.4 ∙ run_ends c.args.steps.now c.args.n x.k c.requires.1 c.args.inputs.now x.j (run_op (width_of c.args.size)) (take x.k x.room) c.loop-k-test.false in
-    rw r (ap ended_with (sym (length-take-le x.k x.room k)), filled x.room c.args.room.now x.k x.invariant.2 x.invariant.3 k)
+    let all : c.args.n ≡ x.k = omega (arith, x.invariant.0, c.loop-k-test.false) in
+    rw r (ap done (all ∙ sym (length-take-le x.k x.room k)), filled x.room c.args.room.now x.k x.invariant.2 x.invariant.3 k)

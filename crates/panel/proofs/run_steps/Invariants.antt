@@ -1,4 +1,4 @@
-use Prim.Native.Nat.{◌-◌, ◌*◌, ◌≤◌}
+use Prim.Native.Nat.{◌*◌, ◌≤◌}
 use mathlib.Core.Path.{◌≡◌}
 use lib.ListN.{length, take, drop}
 use Rattle.whole.specs.Sized.{width_of}
@@ -14,6 +14,3 @@ invariant-loop-k l =
     × (length l.room ≡ length l.initial.room)
     × (drop l.k l.room ≡ drop l.k l.initial.room)
     × (run_from (run_op (width_of l.size)) (drop l.j l.inputs) (take l.k l.room) (actions_of (steps_of (drop (l.k * 4) l.steps))) ≡ run_sheet (run_op (width_of l.size)) l.inputs (steps_of l.steps))
-
-abbrev pub decreases-loop-k : goal.decreases-loop-k
-decreases-loop-k l = l.n - l.k

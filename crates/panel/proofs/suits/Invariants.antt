@@ -1,4 +1,4 @@
-use Prim.Native.Nat.{◌-◌, ◌*◌, ◌≤◌}
+use Prim.Native.Nat.{◌*◌, ◌≤◌}
 use mathlib.Core.Path.{◌≡◌}
 use lib.ListN.{length, drop}
 use Rattle.sheet.specs.Sheet.{steps_of}
@@ -10,6 +10,3 @@ invariant-loop-k l =
     (l.k ≤ l.n)
     × (l.j ≤ length l.inputs)
     × (suits? (actions_of (steps_of (drop (l.k * 4) l.steps))) (drop l.j l.inputs) ≡ suits? (actions_of (steps_of l.steps)) l.inputs)
-
-abbrev pub decreases-loop-k : goal.decreases-loop-k
-decreases-loop-k l = l.n - l.k

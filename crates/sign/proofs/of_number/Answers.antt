@@ -1,14 +1,11 @@
-use mathlib.Core.Path.{◌≡◌, refl}
-use mathlib.Core.Logic.{◌≢◌}
-use mathlib.Core.Bool.{true, false}
+use mathlib.Core.Path.{◌≡◌, refl, sym, ◌∙◌}
 use Prim.Native.Nat.{zero, suc}
 use lib.IntN.{ℤ, pos, negsuc}
-use mir.Syntax.{w64}
-use lib.Signed.{◌≤ℤ◌, ◌<ℤ◌}
-use Rattle.whole.specs.Test.{◌<?◌, ◌≟◌}
-use Rattle.whole.proofs.Decides.{yes, no, lt_test, eq_test}
+use lib.Signed.{◌<ℤ◌}
+use mir.Facts.{to_z-of_z}
+use Rattle.std.specs.Cmp.{int_ranked}
+use Rattle.std.specs.declared.cmp.Ordering.TheVariants.{Less, Equal, Greater}
 use Rattle.whole.proofs.Linear.{ints}
-use Rattle.whole.proofs.Flags.{flags, eq_no}
 use Rattle.sign.specs.declared.Sign.TheVariants.{Negative, Zero, Positive}
 use Rattle.sign.specs.Ported.{of_number}
 use Rattle.sign.proofs.of_number.Goals as goal
@@ -25,26 +22,23 @@ level : (n : ℤ) → n ≡ pos 0 → Zero ≡ of_number n
 unfolding of_number
 level n e = rw e refl
 
-above : (n : ℤ) → pos 0 ≤ℤ n → n ≢ pos 0 → Positive ≡ of_number n
+above : (n : ℤ) → pos 0 <ℤ n → Positive ≡ of_number n
 unfolding of_number
-above (negsuc k) h f = absurd (omega ints)
-above (pos zero) h f = absurd (f refl)
-above (pos (suc k)) h f = refl
+above (negsuc k) h = absurd (omega ints)
+above (pos zero) h = absurd (omega ints)
+above (pos (suc k)) h = refl
 
-pub returns-then-n-lt0 : goal.returns-then-n-lt0
-returns-then-n-lt0 c =
+pub returns-in-Less : goal.returns-in-Less
+returns-in-Less c =
     let n = c.args.n in
-    let h : (n <? pos 0) ≡ true = search flags in
-    below n (yes (lt_test n (pos 0)) h)
+    below n (int_ranked n (pos 0) Less (simp (to_z-of_z c.ranges.n) at (sym c.in-Less.is ∙ c.cmp.ensures)))
 
-pub returns-then-n-eq0 : goal.returns-then-n-eq0
-returns-then-n-eq0 c =
+pub returns-in-Equal : goal.returns-in-Equal
+returns-in-Equal c =
     let n = c.args.n in
-    let h : (n ≟ pos 0) ≡ true = search flags in
-    level n (yes (eq_test n (pos 0)) h)
+    level n (int_ranked n (pos 0) Equal (simp (to_z-of_z c.ranges.n) at (sym c.in-Equal.is ∙ c.cmp.ensures)))
 
-pub returns-else-n-eq0 : goal.returns-else-n-eq0
-returns-else-n-eq0 c =
+pub returns-in-Greater : goal.returns-in-Greater
+returns-in-Greater c =
     let n = c.args.n in
-    let h : (n <? pos 0) ≡ false = search flags in
-    above n (no (lt_test n (pos 0)) h) (no (eq_test n (pos 0)) (eq_no w64 n (pos 0) c.if-n-eq0.false))
+    above n (int_ranked n (pos 0) Greater (simp (to_z-of_z c.ranges.n) at (sym c.in-Greater.is ∙ c.cmp.ensures)))

@@ -1,3 +1,4 @@
+use native.Mathlib.Omega.{arith}
 use mathlib.Core.Path.{refl, ap, ◌∙◌}
 use Rattle.whole.specs.Test.{◌≟◌}
 use Rattle.refusal.specs.Number.{number_of}
@@ -70,5 +71,5 @@ pub returns-in_default : goal.returns-in_default
 unfolding binary_within
 returns-in_default c =
     let f = passed c.args.op _ c.natural.ensures c.ranges.op in
-    let m = c.in_default.in_default-own.rest in
-    rw (f 2 m.0.0.0.0.0.0.0.0.0.0.0.1, f 3 m.0.0.0.0.0.0.0.0.0.0.1, f 4 m.0.0.0.0.0.0.0.0.0.1, f 5 m.0.0.0.0.0.0.0.0.1, f 6 m.0.0.0.0.0.0.0.1, f 7 m.0.0.0.0.0.0.1, f 8 m.0.0.0.0.0.1, f 9 m.0.0.0.0.1, f 10 m.0.0.0.1, f 11 m.0.0.1, f 12 m.0.1, f 13 m.1) (ap (λ r. refused (number_of r)) (other-called c.args.op _ c.other.ensures c.ranges.op))
+    rw (f 2 (λ e. omega arith), f 3 (λ e. omega arith), f 4 (λ e. omega arith), f 5 (λ e. omega arith), f 6 (λ e. omega arith), f 7 (λ e. omega arith), f 8 (λ e. omega arith), f 9 (λ e. omega arith), f 10 (λ e. omega arith), f 11 (λ e. omega arith), f 12 (λ e. omega arith), f 13 (λ e. omega arith))
+    (ap (λ r. refused (number_of r)) (other-called c.args.op _ c.other.ensures c.ranges.op))

@@ -1,3 +1,4 @@
+use native.Mathlib.Omega.{arith}
 use mathlib.Core.Path.{refl, ap, ◌∙◌}
 use Rattle.whole.specs.Test.{◌≟◌}
 use Rattle.refusal.specs.Number.{number_of}
@@ -49,26 +50,26 @@ returns-in-9 c =
 pub returns-in-10 : goal.returns-in-10
 unfolding interval_binary ◌≟◌
 returns-in-10 c =
-    rw (key c.args.op _ c.natural.ensures c.ranges.op 9 c.in-10.is) (ap is (c.range_by.ensures ∙ ap (λ o. range_by o yes no no) c.strict_cmp-strict.ensures))
+    rw (key c.args.op _ c.natural.ensures c.ranges.op 9 c.in-10.is) (ap is (c.by_order.ensures ∙ ap (λ o. range_by o yes no no) c.strict_cmp-strict.ensures))
 
 pub returns-in-11 : goal.returns-in-11
 unfolding interval_binary ◌≟◌
 returns-in-11 c =
-    rw (key c.args.op _ c.natural.ensures c.ranges.op 10 c.in-11.is) (ap is (c.range_by-in-11.ensures ∙ ap (λ o. range_by o no no yes) c.strict_cmp-strict.ensures))
+    rw (key c.args.op _ c.natural.ensures c.ranges.op 10 c.in-11.is) (ap is (c.by_order-in-11.ensures ∙ ap (λ o. range_by o no no yes) c.strict_cmp-strict.ensures))
 
 pub returns-in-12 : goal.returns-in-12
 unfolding interval_binary ◌≟◌
 returns-in-12 c =
-    rw (key c.args.op _ c.natural.ensures c.ranges.op 11 c.in-12.is) (ap is (c.range_by-in-12.ensures ∙ ap (λ o. range_by o yes yes no) c.weak_cmp-weak.ensures))
+    rw (key c.args.op _ c.natural.ensures c.ranges.op 11 c.in-12.is) (ap is (c.by_order-in-12.ensures ∙ ap (λ o. range_by o yes yes no) c.weak_cmp-weak.ensures))
 
 pub returns-in-13 : goal.returns-in-13
 unfolding interval_binary ◌≟◌
 returns-in-13 c =
-    rw (key c.args.op _ c.natural.ensures c.ranges.op 12 c.in-13.is) (ap is (c.range_by-in-13.ensures ∙ ap (λ o. range_by o no yes yes) c.weak_cmp-weak.ensures))
+    rw (key c.args.op _ c.natural.ensures c.ranges.op 12 c.in-13.is) (ap is (c.by_order-in-13.ensures ∙ ap (λ o. range_by o no yes yes) c.weak_cmp-weak.ensures))
 
 pub returns-in_default : goal.returns-in_default
 unfolding interval_binary
 returns-in_default c =
     let f = passed c.args.op _ c.natural.ensures c.ranges.op in
-    let m = c.in_default.in_default-own.rest in
-    rw (f 2 m.0.0.0.0.0.0.0.0.0.0.0.1, f 3 m.0.0.0.0.0.0.0.0.0.0.1, f 4 m.0.0.0.0.0.0.0.0.0.1, f 5 m.0.0.0.0.0.0.0.0.1, f 6 m.0.0.0.0.0.0.0.1, f 7 m.0.0.0.0.0.0.1, f 8 m.0.0.0.0.0.1, f 9 m.0.0.0.0.1, f 10 m.0.0.0.1, f 11 m.0.0.1, f 12 m.0.1, f 13 m.1) (ap (λ r. refused (number_of r)) (other-called c.args.op _ c.other.ensures c.ranges.op))
+    rw (f 2 (λ e. omega arith), f 3 (λ e. omega arith), f 4 (λ e. omega arith), f 5 (λ e. omega arith), f 6 (λ e. omega arith), f 7 (λ e. omega arith), f 8 (λ e. omega arith), f 9 (λ e. omega arith), f 10 (λ e. omega arith), f 11 (λ e. omega arith), f 12 (λ e. omega arith), f 13 (λ e. omega arith))
+    (ap (λ r. refused (number_of r)) (other-called c.args.op _ c.other.ensures c.ranges.op))

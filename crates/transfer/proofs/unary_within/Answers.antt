@@ -1,3 +1,4 @@
+use native.Mathlib.Omega.{arith}
 use mathlib.Core.Path.{refl, ap}
 use Rattle.whole.specs.Test.{◌≟◌}
 use Rattle.refusal.specs.Number.{number_of}
@@ -20,5 +21,5 @@ pub returns-in_default : goal.returns-in_default
 unfolding unary_within
 returns-in_default c =
     let f = passed c.args.op _ c.natural.ensures c.ranges.op in
-    let m = c.in_default.in_default-own.rest in
-    rw (f 14 m.0.1, f 15 m.1) (ap (λ r. refused (number_of r)) (other-called c.args.op _ c.other.ensures c.ranges.op))
+    rw (f 14 (λ e. omega arith), f 15 (λ e. omega arith))
+    (ap (λ r. refused (number_of r)) (other-called c.args.op _ c.other.ensures c.ranges.op))

@@ -1,35 +1,7 @@
-use lib.IntN.{pos}
-use lib.Signed.{◌≤ℤ◌, ◌<ℤ◌}
+use mir.Syntax.{w64}
 use mir.Facts.{to_z-of_z}
-use Rattle.whole.specs.Test.{◌≤?◌}
-use Rattle.whole.proofs.Fits.{zero-fits}
-use Rattle.whole.proofs.Flags.{le-true, le-false}
-use Rattle.whole.proofs.Sums.{room-above, room-below, add-above, add-below}
+use Rattle.whole.proofs.Library.{found_is}
 use Rattle.whole.proofs.add_fits.Goals as goal
-use Rattle.whole.proofs.add_fits.Goals.{Else-y-ge0, Then-y-ge0}
 
-above : (c : Then-y-ge0) → pos 0 ≤ℤ c.args.y
-above c = le-true zero-fits c.ranges.y c.if-y-ge0.true
-
-below : (c : Else-y-ge0) → c.args.y <ℤ pos 0
-below c = le-false zero-fits c.ranges.y c.if-y-ge0.false
-
-pub overflow_sub-result : goal.overflow_sub-result
-overflow_sub-result c = let f = c.ranges in simp (to_z-of_z f.y) (room-above c.args.x c.args.y f.x f.y (above c))
-
-pub overflow_sub-result-else-y-ge0 : goal.overflow_sub-result-else-y-ge0
-overflow_sub-result-else-y-ge0 c = let f = c.ranges in simp (to_z-of_z f.y) (room-below c.args.x c.args.y f.x f.y (below c))
-
-pub returns-then-y-ge0 : goal.returns-then-y-ge0
-unfolding ◌≤?◌
-returns-then-y-ge0 c =
-    let f = c.ranges in
-    let r = room-above c.args.x c.args.y f.x f.y (above c) in
-    simp (to_z-of_z f.x, to_z-of_z f.y, to_z-of_z r) (add-above c.args.x c.args.y f.x f.y (above c))
-
-pub returns-else-y-ge0 : goal.returns-else-y-ge0
-unfolding ◌≤?◌
-returns-else-y-ge0 c =
-    let f = c.ranges in
-    let r = room-below c.args.x c.args.y f.x f.y (below c) in
-    simp (to_z-of_z f.x, to_z-of_z f.y, to_z-of_z r) (add-below c.args.x c.args.y f.x f.y (below c))
+pub returns : goal.returns
+returns c = rw (to_z-of_z c.ranges.x, to_z-of_z c.ranges.y) at (found_is w64 _ _ _ c.is_some.ensures c.exact_add.ensures)

@@ -1,15 +1,7 @@
-use Rattle.whole.specs.Exact.{exactly}
-use Rattle.whole.proofs.Flags.{flags}
-use Rattle.whole.proofs.Sums.{results}
+use mir.Syntax.{w64}
+use mir.Facts.{to_z-of_z}
+use Rattle.whole.proofs.Library.{exactly_is}
 use Rattle.whole.proofs.exact_add.Goals as goal
 
-pub overflow_add-result : goal.overflow_add-result
-overflow_add-result c = search (results, flags)
-
-pub returns-then-add_fits : goal.returns-then-add_fits
-unfolding exactly
-returns-then-add_fits c = search (results, flags)
-
-pub returns-else-add_fits : goal.returns-else-add_fits
-unfolding exactly
-returns-else-add_fits c = search (results, flags)
+pub returns : goal.returns
+returns c = rw (to_z-of_z c.ranges.x, to_z-of_z c.ranges.y) at (exactly_is w64 _ _ c.checked_add.ensures)

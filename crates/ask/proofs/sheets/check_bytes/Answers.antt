@@ -1,3 +1,5 @@
+use mathlib.Core.Path.{ap, ◌∙◌}
+use Rattle.std.specs.Prelude.{Err}
 use Rattle.say.proofs.Saying.{◌and_then◌}
 use Rattle.desk.proofs.Told.{never-short}
 use Rattle.ask.proofs.Checking.{passed-said, refused-said, check-refused-at}
@@ -7,46 +9,46 @@ use Rattle.ask.proofs.sheets.check_bytes.Goals as goal
 pub overflow_mul-n : goal.overflow_mul-n
 overflow_mul-n c =
     let r = c.check in
-    let h = passed-said _ _ _ _ r.ensures.0 r.ensures.1 (search rules) c.in-Passed.n c.in-Passed.is in
+    let h = passed-said _ _ _ _ r.ensures.0 r.ensures.1 (search rules) c.in-Ok.n c.in-Ok.is in
     search (h.0, rules)
 
 pub slice_bounds-numbers-end : goal.slice_bounds-numbers-end
 slice_bounds-numbers-end c =
     let r = c.check in
-    let h = passed-said _ _ _ _ r.ensures.0 r.ensures.1 (search rules) c.in-Passed.n c.in-Passed.is in
+    let h = passed-said _ _ _ _ r.ensures.0 r.ensures.1 (search rules) c.in-Ok.n c.in-Ok.is in
     search (h.0, rules)
 
 pub overflow_mul-step : goal.overflow_mul-step
 overflow_mul-step c =
     let r = c.check in
-    let h = refused-said _ _ _ _ r.ensures.0 r.ensures.1 (search rules) c.in-RefusedAtStep.why c.in-RefusedAtStep.step c.in-RefusedAtStep.is in
+    let h = refused-said _ _ _ _ r.ensures.0 r.ensures.1 (search rules) c.in-Err-AtStep.why c.in-Err-AtStep.step (c.in-Err-AtStep.is ∙ ap Err c.in-Err-AtStep.field-0-is) in
     search (h.0, rules)
 
-pub slice_bounds-numbers-end-in-RefusedAtStep : goal.slice_bounds-numbers-end-in-RefusedAtStep
-slice_bounds-numbers-end-in-RefusedAtStep c =
+pub slice_bounds-numbers-end-in-Err-AtStep : goal.slice_bounds-numbers-end-in-Err-AtStep
+slice_bounds-numbers-end-in-Err-AtStep c =
     let r = c.check in
-    let h = refused-said _ _ _ _ r.ensures.0 r.ensures.1 (search rules) c.in-RefusedAtStep.why c.in-RefusedAtStep.step c.in-RefusedAtStep.is in
+    let h = refused-said _ _ _ _ r.ensures.0 r.ensures.1 (search rules) c.in-Err-AtStep.why c.in-Err-AtStep.step (c.in-Err-AtStep.is ∙ ap Err c.in-Err-AtStep.field-0-is) in
     search (h.0, rules)
 
-pub returns-in-Passed : goal.returns-in-Passed
-returns-in-Passed c =
+pub returns-in-Ok : goal.returns-in-Ok
+returns-in-Ok c =
     let r = c.check in
-    let h = passed-said _ _ _ _ r.ensures.0 r.ensures.1 (search rules) c.in-Passed.n c.in-Passed.is in
-    rw h.1 (c.word-e.ensures and_then c.numbers.ensures)
+    let h = passed-said _ _ _ _ r.ensures.0 r.ensures.1 (search rules) c.in-Ok.n c.in-Ok.is in
+    rw h.1 (c.word.ensures and_then c.numbers.ensures)
 
-pub returns-in-RefusedAtStep : goal.returns-in-RefusedAtStep
-returns-in-RefusedAtStep c =
+pub returns-in-Err-AtStep : goal.returns-in-Err-AtStep
+returns-in-Err-AtStep c =
     let r = c.check in
-    let h = refused-said _ _ _ _ r.ensures.0 r.ensures.1 (search rules) c.in-RefusedAtStep.why c.in-RefusedAtStep.step c.in-RefusedAtStep.is in
-    rw h.1 (c.word-d.ensures and_then c.place_by-e.ensures and_then c.numbers-in-RefusedAtStep.ensures)
+    let h = refused-said _ _ _ _ r.ensures.0 r.ensures.1 (search rules) c.in-Err-AtStep.why c.in-Err-AtStep.step (c.in-Err-AtStep.is ∙ ap Err c.in-Err-AtStep.field-0-is) in
+    rw h.1 (c.word-in-Err-AtStep.ensures and_then c.place_by.ensures and_then c.numbers-in-Err-AtStep.ensures)
 
-pub returns-in-RefusedAt : goal.returns-in-RefusedAt
-returns-in-RefusedAt c =
+pub returns-in-Err-AtByte : goal.returns-in-Err-AtByte
+returns-in-Err-AtByte c =
     let r = c.check in
-    let h = check-refused-at _ _ _ _ r.ensures.0 r.ensures.1 (search rules) c.in-RefusedAt.why c.in-RefusedAt.place c.in-RefusedAt.is in
+    let h = check-refused-at _ _ _ _ r.ensures.0 r.ensures.1 (search rules) c.in-Err-AtByte.why c.in-Err-AtByte.place (c.in-Err-AtByte.is ∙ ap Err c.in-Err-AtByte.field-0-is) in
     rw h c.refused_at.ensures
 
-pub returns-in-Refused : goal.returns-in-Refused
-returns-in-Refused c =
+pub returns-in-Err-By : goal.returns-in-Err-By
+returns-in-Err-By c =
     let r = c.check in
-    absurd (never-short _ _ _ _ r.ensures.0 r.ensures.1 (search rules) c.in-Refused.why c.in-Refused.is)
+    absurd (never-short _ _ _ _ r.ensures.0 r.ensures.1 (search rules) c.in-Err-By.why (c.in-Err-By.is ∙ ap Err c.in-Err-By.field-0-is))

@@ -1,35 +1,28 @@
+use mathlib.Core.Path.{sym}
 use Rattle.say.proofs.Saying.{◌and_then◌}
-use mathlib.Core.Path.{sym, ap, ◌∙◌}
-use Rattle.sheet.specs.Answer.{read_told}
-use Rattle.sheet.proofs.Answered.{enough-room}
 use Rattle.ask.proofs.Sheeting.{read-room, read-said, read-refused}
 use borrow.Author.Rules.{rules}
 use Rattle.ask.proofs.sheets.read_bytes.Goals as goal
 
-pub overflow_mul-n : goal.overflow_mul-n
-overflow_mul-n c =
-    let r = c.read in
-    let h = read-room _ _ c.in-Steps.n (sym r.ensures.0 ∙ ap read_told c.in-Steps.is) in
+pub overflow_mul-steps : goal.overflow_mul-steps
+overflow_mul-steps c =
+    let h = read-room _ _ c.in-Ok.n (sym c.in-Ok.ensures.0) in
+    search (h, rules)
+
+pub slice_bounds-steps-end : goal.slice_bounds-steps-end
+slice_bounds-steps-end c =
+    let h = read-room _ _ c.in-Ok.n (sym c.in-Ok.ensures.0) in
     search (h, rules)
 
 pub slice_bounds-numbers-end : goal.slice_bounds-numbers-end
 slice_bounds-numbers-end c =
-    let r = c.read in
-    let h = read-room _ _ c.in-Steps.n (sym r.ensures.0 ∙ ap read_told c.in-Steps.is) in
+    let h = read-room _ _ c.in-Ok.n (sym c.in-Ok.ensures.0) in
     search (h, rules)
 
-pub returns-in-Steps : goal.returns-in-Steps
-returns-in-Steps c =
-    let r = c.read in
-    let d = sym r.ensures.0 ∙ ap read_told c.in-Steps.is in
-    rw (read-said _ _ c.in-Steps.n d, ← r.ensures.1) (c.word-e.ensures and_then c.numbers.ensures)
+pub returns-in-Ok : goal.returns-in-Ok
+returns-in-Ok c =
+    let r = c.in-Ok.ensures in
+    rw (read-said _ _ c.in-Ok.n (sym r.0), ← r.1) (c.word.ensures and_then c.numbers.ensures)
 
-pub returns-in-RefusedAt : goal.returns-in-RefusedAt
-returns-in-RefusedAt c =
-    let r = c.read in
-    rw (read-refused _ _ _ _ (sym r.ensures.0 ∙ ap read_told c.in-RefusedAt.is)) c.refused_at.ensures
-
-pub returns-in-Refused : goal.returns-in-Refused
-returns-in-Refused c =
-    let r = c.read in
-    absurd (enough-room _ _ (search rules) _ (sym r.ensures.0 ∙ ap read_told c.in-Refused.is))
+pub returns-in-Err : goal.returns-in-Err
+returns-in-Err c = rw (read-refused _ _ c.in-Err.fault (search rules) c.in-Err.ensures.0) c.refused.ensures

@@ -1,40 +1,42 @@
+use mathlib.Core.Path.{ap, ◌∙◌}
+use Rattle.std.specs.Prelude.{Err}
 use Rattle.say.proofs.Saying.{◌and_then◌}
 use Rattle.desk.proofs.Told.{never-short}
 use Rattle.check_sheet.proofs.Printing.{passed-text, refused-text, unread-text}
 use borrow.Author.Rules.{rules}
 use Rattle.check_sheet.proofs.printed.check_text.Goals as goal
 
-pub lines-e-requires : goal.lines-e-requires
-lines-e-requires c =
+pub lines-requires : goal.lines-requires
+lines-requires c =
     let r = c.check in
-    let h = passed-text _ _ _ _ r.ensures.0 r.ensures.1 (search rules) c.in-Passed.n c.in-Passed.is in
+    let h = passed-text _ _ _ _ r.ensures.0 r.ensures.1 (search rules) c.in-Ok.n c.in-Ok.is in
     search (h.0, rules)
 
-pub lines-e-requires-in-RefusedAtStep : goal.lines-e-requires-in-RefusedAtStep
-lines-e-requires-in-RefusedAtStep c =
+pub lines-requires-in-Err-AtStep : goal.lines-requires-in-Err-AtStep
+lines-requires-in-Err-AtStep c =
     let r = c.check in
-    let h = refused-text _ _ _ _ r.ensures.0 r.ensures.1 (search rules) c.in-RefusedAtStep.why c.in-RefusedAtStep.step c.in-RefusedAtStep.is in
+    let h = refused-text _ _ _ _ r.ensures.0 r.ensures.1 (search rules) c.in-Err-AtStep.why c.in-Err-AtStep.step (c.in-Err-AtStep.is ∙ ap Err c.in-Err-AtStep.field-0-is) in
     search (h.0, rules)
 
-pub returns-in-Passed : goal.returns-in-Passed
-returns-in-Passed c =
+pub returns-in-Ok : goal.returns-in-Ok
+returns-in-Ok c =
     let r = c.check in
-    let h = passed-text _ _ _ _ r.ensures.0 r.ensures.1 (search rules) c.in-Passed.n c.in-Passed.is in
-    rw h.1 (c.lines-e.ensures and_then c.count_line.ensures)
+    let h = passed-text _ _ _ _ r.ensures.0 r.ensures.1 (search rules) c.in-Ok.n c.in-Ok.is in
+    rw h.1 (c.lines.ensures and_then c.count_line.ensures)
 
-pub returns-in-RefusedAtStep : goal.returns-in-RefusedAtStep
-returns-in-RefusedAtStep c =
+pub returns-in-Err-AtStep : goal.returns-in-Err-AtStep
+returns-in-Err-AtStep c =
     let r = c.check in
-    let h = refused-text _ _ _ _ r.ensures.0 r.ensures.1 (search rules) c.in-RefusedAtStep.why c.in-RefusedAtStep.step c.in-RefusedAtStep.is in
-    rw h.1 (c.lines-e-in-RefusedAtStep.ensures and_then c.place_line.ensures)
+    let h = refused-text _ _ _ _ r.ensures.0 r.ensures.1 (search rules) c.in-Err-AtStep.why c.in-Err-AtStep.step (c.in-Err-AtStep.is ∙ ap Err c.in-Err-AtStep.field-0-is) in
+    rw h.1 (c.lines-in-Err-AtStep.ensures and_then c.place_line.ensures)
 
-pub returns-in-RefusedAt : goal.returns-in-RefusedAt
-returns-in-RefusedAt c =
+pub returns-in-Err-AtByte : goal.returns-in-Err-AtByte
+returns-in-Err-AtByte c =
     let r = c.check in
-    let h = unread-text _ _ _ _ r.ensures.0 r.ensures.1 (search rules) c.in-RefusedAt.why c.in-RefusedAt.place c.in-RefusedAt.is in
-    rw h c.place_line-in-RefusedAt.ensures
+    let h = unread-text _ _ _ _ r.ensures.0 r.ensures.1 (search rules) c.in-Err-AtByte.why c.in-Err-AtByte.place (c.in-Err-AtByte.is ∙ ap Err c.in-Err-AtByte.field-0-is) in
+    rw h c.place_line-in-Err-AtByte.ensures
 
-pub returns-in-Refused : goal.returns-in-Refused
-returns-in-Refused c =
+pub returns-in-Err-By : goal.returns-in-Err-By
+returns-in-Err-By c =
     let r = c.check in
-    absurd (never-short _ _ _ _ r.ensures.0 r.ensures.1 (search rules) c.in-Refused.why c.in-Refused.is)
+    absurd (never-short _ _ _ _ r.ensures.0 r.ensures.1 (search rules) c.in-Err-By.why (c.in-Err-By.is ∙ ap Err c.in-Err-By.field-0-is))

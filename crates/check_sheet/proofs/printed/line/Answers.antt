@@ -3,7 +3,7 @@ use Rattle.check_sheet.proofs.printed.line.Goals as goal
 
 pub returns : goal.returns
 returns c =
-    c.natural-a.ensures
-    and_then c.word-b.ensures
-    and_then c.shown-c.ensures
+    c.natural.ensures
     and_then c.word.ensures
+    and_then c.shown.ensures
+    and_then c.word-2.ensures

@@ -12,7 +12,7 @@ use Rattle.check_sheet.proofs.printed.lines.Goals as goal
 
 pub loop-k-init : goal.loop-k-init
 unfolding numbered shown_first
-loop-k-init c = (search rules, search rules, nothing _ _)
+loop-k-init c = nothing _
 
 pub loop-k-preserved : goal.loop-k-preserved
 loop-k-preserved c =
@@ -21,10 +21,4 @@ loop-k-preserved c =
     let l = a.room.now in
     let h : a.n * 5 ≤ length l = search rules in
     let q = c.shown_at.ensures ∙ looked-in l (length l / 5) v.k (omega (arith, h, c.loop-k-test.true)) in
-    (search rules, search rules, rw (one_more l v.k) (v.invariant.2 and_then (rw q at c.line-e.ensures)))
-
-pub returns : goal.returns
-returns c =
-    let v = c.loop-k in
-    let e : v.k ≡ c.args.n = omega (arith, v.invariant.0, c.loop-k-test.false) in
-    rw e at v.invariant.2
+    rw (one_more l v.k) (v.invariant and_then (rw q at c.line.ensures))

@@ -3,12 +3,8 @@ use Rattle.check_sheet.proofs.printed.shown.Goals as goal
 
 pub returns : goal.returns
 returns c =
-    let i = c.range in
-    let s = c.spacing in
-    let g = c.sign in
-    rw (← i.ensures, ← s.ensures, ← g.ensures)
-    (c.interval-a.ensures
-    and_then c.word-b.ensures
-    and_then c.congruence-c.ensures
-    and_then c.word-d.ensures
-    and_then c.sign-2.ensures)
+    c.interval.ensures
+    and_then c.word.ensures
+    and_then c.congruence.ensures
+    and_then c.word-2.ensures
+    and_then c.sign.ensures

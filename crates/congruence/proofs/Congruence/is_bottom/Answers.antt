@@ -1,11 +1,9 @@
-use Rattle.congruence.proofs.Values.{values}
+use mathlib.Core.Path.{ap₂, ◌∙◌}
+use mathlib.Core.Bool.{◌&&◌}
+use Rattle.congruence.proofs.Values.{eq-number}
 use Rattle.congruence.specs.Set.{bottom?}
 use Rattle.congruence.proofs.Congruence.is_bottom.Goals as goal
 
-pub returns-then-self-eq1 : goal.returns-then-self-eq1
+pub returns : goal.returns
 unfolding bottom?
-returns-then-self-eq1 c = search values
-
-pub returns-else-self-eq1 : goal.returns-else-self-eq1
-unfolding bottom?
-returns-else-self-eq1 c = search values
+returns c = c.eq.ensures ∙ ap₂ ◌&&◌ (eq-number _ _) (eq-number _ _)

@@ -1,20 +1,15 @@
-use mathlib.Core.Path.{ap, ◌∙◌, sym}
 use Prim.Native.Nat.{◌%◌}
-use native.Mathlib.Nat.{mod-zero}
 use lib.Dec.{eqb}
 use lib.IntN.{nat_abs, ◌-ℤ◌}
+use borrow.Author.Tests.{eq-eqb, eqb-true}
 use mir.Facts.{to_z-of_z}
+use Rattle.std.specs.Bool.{one_answer}
 use Rattle.congruence.specs.Numbers.{alike?}
 use Rattle.congruence.proofs.number.alike.Goals as goal
 
-pub returns-then-m-eq0 : goal.returns-then-m-eq0
+pub returns : goal.returns
 unfolding alike?
-returns-then-m-eq0 c =
-    let e = simp (to_z-of_z c.ranges.x, to_z-of_z c.ranges.y) at c.distance-d.ensures in
-    ap (λ t. eqb t 0) (e ∙ sym (mod-zero (nat_abs (c.args.x -ℤ c.args.y))) ∙ ap (λ m. nat_abs (c.args.x -ℤ c.args.y) % m) (sym c.if-m-eq0.true))
-
-pub returns-else-m-eq0 : goal.returns-else-m-eq0
-unfolding alike?
-returns-else-m-eq0 c =
-    let e = simp (to_z-of_z c.ranges.x, to_z-of_z c.ranges.y) at c.distance-d.ensures in
-    ap (λ t. eqb (t % c.args.m) 0) e
+returns c =
+    let e = simp (to_z-of_z c.ranges.x, to_z-of_z c.ranges.y) at c.abs_diff.ensures in
+    let n = nat_abs (c.args.x -ℤ c.args.y) % c.args.m in
+    one_answer _ (eqb n 0) (rw e at c.is_multiple_of.ensures) (eqb-true n 0, eq-eqb n 0)

@@ -3,14 +3,6 @@ use Rattle.congruence.proofs.Values.{only-told, values}
 use Rattle.congruence.specs.Ported.{divided}
 use Rattle.congruence.proofs.ported.divided.Goals as goal
 
-pub returns-then-either_bottom : goal.returns-then-either_bottom
-unfolding divided
-returns-then-either_bottom c = search (only-told, calls, values) depth 9 fits 5000
-
-pub returns-then-only : goal.returns-then-only
-unfolding divided
-returns-then-only c = search (only-told, calls, values) depth 9 fits 5000
-
 pub returns-then-b-eq0 : goal.returns-then-b-eq0
 unfolding divided
 returns-then-b-eq0 c = search (only-told, calls, values) depth 9 fits 5000

@@ -2,10 +2,10 @@ use Rattle.congruence.proofs.Values.{same-told, values}
 use Rattle.congruence.specs.Ported.{narrowed}
 use Rattle.congruence.proofs.ported.narrowed.Goals as goal
 
-pub returns-then-same : goal.returns-then-same
+pub returns-then-eq : goal.returns-then-eq
 unfolding narrowed
-returns-then-same c = search (same-told, values) depth 8 fits 5000
+returns-then-eq c = search (same-told, values) depth 8 fits 5000
 
-pub returns-else-same : goal.returns-else-same
+pub returns-else-eq : goal.returns-else-eq
 unfolding narrowed
-returns-else-same c = search (same-told, values) depth 8 fits 5000
+returns-else-eq c = search (same-told, values) depth 8 fits 5000

@@ -1,3 +1,4 @@
+use borrow.Author.Tests.{ne_eqb}
 use Rattle.congruence.proofs.Values.{values}
 use Rattle.congruence.specs.Ported.{only?}
 use Rattle.congruence.proofs.ported.only.Goals as goal
@@ -8,4 +9,4 @@ returns-then-a-eq0 c = search values
 
 pub returns-else-a-eq0 : goal.returns-else-a-eq0
 unfolding only?
-returns-else-a-eq0 c = search values
+returns-else-a-eq0 c = search (ne_eqb, c.if-a-eq0.false, values)

@@ -2,9 +2,9 @@ use Rattle.congruence.proofs.Values.{same-told, below-told, values}
 use Rattle.congruence.specs.Ported.{ordered}
 use Rattle.congruence.proofs.ported.ordered.Goals as goal
 
-pub returns-then-same : goal.returns-then-same
+pub returns-then-eq : goal.returns-then-eq
 unfolding ordered
-returns-then-same c = search (same-told, below-told, values) depth 8 fits 5000
+returns-then-eq c = search (same-told, below-told, values) depth 8 fits 5000
 
 pub returns-then-is_bottom : goal.returns-then-is_bottom
 unfolding ordered

@@ -7,6 +7,6 @@ pub returns-then-either_bottom : goal.returns-then-either_bottom
 unfolding apart?
 returns-then-either_bottom c = search (calls, values) depth 9 fits 5000
 
-pub returns : goal.returns
+pub returns-else-either_bottom : goal.returns-else-either_bottom
 unfolding apart?
-returns c = search (calls, values) depth 9 fits 5000
+returns-else-either_bottom c = search (calls, values) depth 9 fits 5000

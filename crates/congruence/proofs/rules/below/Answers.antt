@@ -1,16 +1,18 @@
-use Rattle.whole.proofs.Flags.{was-true, was-false}
-use Rattle.congruence.proofs.Values.{singles-told, values}
+use mathlib.Core.Path.{ap, ◌∙◌}
+use lib.IntN.{pos}
+use mir.Syntax.{w64}
+use mir.Val.{SFits}
+use Rattle.whole.specs.Choice.{pick}
+use Rattle.whole.specs.Test.{truth}
+use Rattle.whole.proofs.Flags.{lt-is}
+use Rattle.congruence.proofs.Values.{values}
+use Rattle.congruence.specs.Set.{cong, top, singles?}
 use Rattle.congruence.specs.Mended.{comparison}
 use Rattle.congruence.proofs.rules.below.Goals as goal
 
-pub returns-then-not-both_single : goal.returns-then-not-both_single
+pub returns : goal.returns
 unfolding comparison
-returns-then-not-both_single c = search (singles-told, was-true, was-false, values) depth 9
-
-pub returns-then-a-b : goal.returns-then-a-b
-unfolding comparison
-returns-then-a-b c = search (singles-told, was-true, was-false, values) depth 9
-
-pub returns-else-a-b : goal.returns-else-a-b
-unfolding comparison
-returns-else-a-b c = search (singles-told, was-true, was-false, values) depth 9
+returns c =
+    let f : SFits w64 c.args.a.constant = search values in
+    let g : SFits w64 c.args.b.constant = search values in
+    c.compared.ensures ∙ ap (λ t. pick (singles? c.args.a c.args.b) (cong (truth t) (pos 0)) top) (lt-is c.args.a.constant c.args.b.constant f g)

@@ -17,18 +17,18 @@ returns-then-m-eq0 c = search (eq-eqb, ne_eqb, calls, values) depth 9
 
 pub sum_modulo-requires : goal.sum_modulo-requires
 sum_modulo-requires c =
-    let k : SFits w64 c.in-Is.k = search values in
-    simp (to_z-of_z k) (above_zero _ (pos 0) c.args.m c.natural.result c.if-m-eq0.false c.natural.ensures c.in-Is.k c.in-Is.is)
+    let k : SFits w64 c.in-Some.k = search values in
+    simp (to_z-of_z k) (above_zero _ (pos 0) c.args.m c.natural.result c.if-m-eq0.false c.natural.ensures c.in-Some.k c.in-Some.is)
 
-pub returns-in-DoesNotFit : goal.returns-in-DoesNotFit
-returns-in-DoesNotFit c =
-    class-none _ (c.args.x +ℤ c.args.y) c.args.m c.natural.result c.if-m-eq0.false c.natural.ensures (cc)
+pub returns-in_default : goal.returns-in_default
+returns-in_default c =
+    class-none _ (c.args.x +ℤ c.args.y) c.args.m c.natural.result c.if-m-eq0.false c.natural.ensures c.in_default.is
 
-pub returns-in-Is : goal.returns-in-Is
-returns-in-Is c =
+pub returns : goal.returns
+returns c =
     let f = c.ranges in
-    let k : SFits w64 c.in-Is.k = search values in
+    let k : SFits w64 c.in-Some.k = search values in
     let r : SFits w64 c.sum_modulo.result = search values in
     let q = simp (to_z-of_z f.x, to_z-of_z f.y, to_z-of_z k) at c.sum_modulo.ensures in
-    class-some _ (c.args.x +ℤ c.args.y) c.args.m c.natural.result c.if-m-eq0.false c.natural.ensures c.in-Is.k _ c.in-Is.is
+    class-some _ (c.args.x +ℤ c.args.y) c.args.m c.natural.result c.if-m-eq0.false c.natural.ensures c.in-Some.k _ c.in-Some.is
     (built _ _ _ _ (to_z-of_z r ∙ q) (to_z-of_z k))

@@ -1,20 +1,19 @@
-use mathlib.Core.Path.{◌≡◌}
-use Rattle.whole.specs.declared.Order.TheVariants.{Less, Equal, Greater, None}
-use Rattle.interval.specs.Ported.{strict_cmp, equal_by}
+use mathlib.Core.Path.{refl, sym}
+use Rattle.interval.specs.Ported.{equal_by}
 use Rattle.interval.proofs.ported.equals.Goals as goal
 
-pub returns-in-Less : goal.returns-in-Less
+pub returns-in-Some-Less : goal.returns-in-Some-Less
 unfolding equal_by
-returns-in-Less c = let e : strict_cmp c.args.a c.args.b ≡ Less = cc in rw e
+returns-in-Some-Less c = rw (sym c.in-Some-Less.ensures, c.in-Some-Less.field-0-is) refl
 
-pub returns-in-Equal : goal.returns-in-Equal
+pub returns-in-Some-Equal : goal.returns-in-Some-Equal
 unfolding equal_by
-returns-in-Equal c = let e : strict_cmp c.args.a c.args.b ≡ Equal = cc in rw e
+returns-in-Some-Equal c = rw (sym c.in-Some-Equal.ensures, c.in-Some-Equal.field-0-is) refl
 
-pub returns-in-Greater : goal.returns-in-Greater
+pub returns-in-Some-Greater : goal.returns-in-Some-Greater
 unfolding equal_by
-returns-in-Greater c = let e : strict_cmp c.args.a c.args.b ≡ Greater = cc in rw e
+returns-in-Some-Greater c = rw (sym c.in-Some-Greater.ensures, c.in-Some-Greater.field-0-is) refl
 
 pub returns-in-None : goal.returns-in-None
 unfolding equal_by
-returns-in-None c = let e : strict_cmp c.args.a c.args.b ≡ None = cc in rw e
+returns-in-None c = rw (sym c.in-None.ensures) refl

@@ -1,7 +1,8 @@
 use Rattle.whole.proofs.Flags.{flags}
-use Rattle.interval.specs.Ported.{maybe_less_when}
-use Rattle.interval.proofs.PortedCalls.{pair_made}
+use Rattle.interval.specs.Ported.{maybe_less_when, less_left, less_right}
+use Rattle.interval.proofs.PortedCalls.{beside, numbers-from, numbers-up-to, pair_made}
 use Rattle.interval.proofs.Calls.{asked}
+use Rattle.interval.proofs.ported.maybe_less_when.Goals.{then-b-eq-MIN-via-then-b-eq-MIN, then-b-eq-MIN-via-else-b-eq-MIN+then-a-eq-MAX}
 use Rattle.interval.proofs.ported.maybe_less_when.Goals as goal
 
 pub returns-then-apart : goal.returns-then-apart
@@ -10,18 +11,8 @@ returns-then-apart c = search (asked, flags) depth 8 fits 5000
 
 pub returns-then-b-eq-MIN : goal.returns-then-b-eq-MIN
 unfolding maybe_less_when
-returns-then-b-eq-MIN c = search (asked, flags) depth 8 fits 5000
-
-pub returns-then-a-eq-MAX : goal.returns-then-a-eq-MAX
-unfolding maybe_less_when
-returns-then-a-eq-MAX c = search (asked, flags) depth 8 fits 5000
-
-pub less_left-requires : goal.less_left-requires
-less_left-requires c = search (asked, flags) depth 8 fits 5000
-
-pub less_right-requires : goal.less_right-requires
-less_right-requires c = search (asked, flags) depth 8 fits 5000
+returns-then-b-eq-MIN c = elim c.then-b-eq-MIN.branch [ then-b-eq-MIN-via-then-b-eq-MIN w ↦ search (asked, flags) depth 8 fits 5000 | then-b-eq-MIN-via-else-b-eq-MIN+then-a-eq-MAX w ↦ search (asked, flags) depth 8 fits 5000 ]
 
 pub returns : goal.returns
-unfolding maybe_less_when
-returns c = search (pair_made, asked, flags) depth 8 fits 5000
+unfolding maybe_less_when less_left less_right
+returns c = search (pair_made, numbers-up-to, numbers-from, beside, asked, flags) depth 8 fits 20000

@@ -2,18 +2,18 @@ use Rattle.whole.proofs.Flags.{flags}
 use Rattle.interval.specs.Ported.{same_one}
 use Rattle.interval.proofs.ported.same_one.Goals as goal
 
-pub returns-then-x-y : goal.returns-then-x-y
+pub returns-in_err-a : goal.returns-in_err-a
 unfolding same_one
-returns-then-x-y c = rw (c.in-One.is, c.in-One-b.is) (search flags)
+returns-in_err-a c = rw (c.in_err-a.was, c.from_residual.ensures)
 
-pub returns-else-x-y : goal.returns-else-x-y
+pub returns-in_err-b : goal.returns-in_err-b
 unfolding same_one
-returns-else-x-y c = rw (c.in-One.is, c.in-One-b.is) (search flags)
+returns-in_err-b c = rw (c.in_ok-a.was, c.in_err-b.was, c.from_residual-in_err-b.ensures)
 
-pub returns-in-None-b : goal.returns-in-None-b
+pub returns-then-branch : goal.returns-then-branch
 unfolding same_one
-returns-in-None-b c = cc
+returns-then-branch c = rw (c.in_ok-a.was, c.in_ok-b.was) (search flags)
 
-pub returns-in-None : goal.returns-in-None
+pub returns-else-branch : goal.returns-else-branch
 unfolding same_one
-returns-in-None c = cc
+returns-else-branch c = rw (c.in_ok-a.was, c.in_ok-b.was) (search flags)

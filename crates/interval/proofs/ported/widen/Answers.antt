@@ -1,4 +1,4 @@
-use Rattle.whole.proofs.Flags.{flags}
+use Rattle.whole.proofs.Flags.{bools, flags}
 use Rattle.interval.specs.Ported.{widen}
 use Rattle.interval.proofs.PortedCalls.{ends}
 use Rattle.interval.proofs.Calls.{asked, made}
@@ -10,4 +10,4 @@ returns-then-is_bottom c = search (ends, asked, flags) depth 8 fits 5000
 
 pub returns : goal.returns
 unfolding widen
-returns c = search (made, ends, asked, flags) depth 8 fits 5000
+returns c = search (made, ends, asked, bools) depth 8 fits 5000

@@ -14,7 +14,7 @@ use Rattle.run_sheet.proofs.printed.lines.Goals as goal
 
 pub loop-k-init : goal.loop-k-init
 unfolding numbered
-loop-k-init c = (search rules, search rules, nothing _ _, λ h. search rules)
+loop-k-init c = (nothing _, λ h. search rules)
 
 pub loop-k-preserved : goal.loop-k-preserved
 loop-k-preserved c =
@@ -22,13 +22,13 @@ loop-k-preserved c =
     let l = c.args.numbers.now in
     let e : to_z w64 (of_z w64 (get_or l v.k (pos 0))) ≡ get_or l v.k (pos 0) = search rules in
     let o = one_more l v.k (search rules) in
-    let n = rw e at c.line-e.ensures in
+    let n = rw e at c.line.ensures in
     let z = size-append (numbered step_line 0 (take v.k l)) (step_line v.k (get_or l v.k (pos 0))) in
-    (search rules, search rules, rw o (v.invariant.2 and_then n.0), λ h. rw o (omega (arith, z, n.1 (omega arith), v.invariant.3 h)))
+    (rw o (v.invariant.0 and_then n.0), λ h. rw o (omega (arith, z, n.1 (omega arith), v.invariant.1 h)))
 
 pub returns : goal.returns
 returns c =
     let l = c.args.numbers.now in
     let v = c.loop-k in
     let a = all_lines l v.k (search rules) in
-    (rw a at v.invariant.2, λ h. rw (← a) (omega (arith, v.invariant.3 h)))
+    (rw a at v.invariant.0, λ h. rw (← a) (omega (arith, v.invariant.1 h)))

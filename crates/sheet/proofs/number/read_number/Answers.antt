@@ -1,5 +1,6 @@
 use Prim.Native.Nat.{◌≤◌, ◌<◌, ◌%◌}
 use mathlib.Core.Path.{◌≡◌, refl, sym, ◌∙◌}
+use mathlib.Core.Logic.{⊎_elim}
 use lib.ListN.{get_or}
 use Rattle.sheet.proofs.Groups.{too_many, ended, group-bits, code-too-large, code-goes-on, code-last, code-one-too-many}
 use native.Mathlib.Omega.{arith}
@@ -58,17 +59,11 @@ returns-then-shift-gt0 c =
     let a = w.args in
     sym (x.invariant.3 ∙ code-one-too-many a.s.now a.at x.i x.shift x.value w.wide-b.result (byte w) (byte_fits w) w.if-shift-gt63.false w.if-s-i.false c.if-b-eq0.true c.if-shift-gt0.true)
 
-pub returns-else-shift-gt0 : goal.returns-else-shift-gt0
-returns-else-shift-gt0 c =
-    let w = (goal.at.returns-else-shift-gt0 c).After-wide-b in
+pub returns-then-b-lt128 : goal.returns-then-b-lt128
+returns-then-b-lt128 c =
+    let w = (goal.at.returns-then-b-lt128 c).After-wide-b in
     let x = w.loop-shift in
     let a = w.args in
-    let none : x.shift ≡ 0 = omega (arith, c.if-shift-gt0.false) in
-    sym (x.invariant.3 ∙ code-last a.s.now a.at x.i x.shift x.value w.wide-b.result (byte w) (byte_fits w) w.if-shift-gt63.false w.if-s-i.false c.if-part-shift.false x.invariant.2 c.if-b-lt128.true (λ _. none))
-
-pub returns-else-b-eq0 : goal.returns-else-b-eq0
-returns-else-b-eq0 c =
-    let w = (goal.at.returns-else-b-eq0 c).After-wide-b in
-    let x = w.loop-shift in
-    let a = w.args in
-    sym (x.invariant.3 ∙ code-last a.s.now a.at x.i x.shift x.value w.wide-b.result (byte w) (byte_fits w) w.if-shift-gt63.false w.if-s-i.false c.if-part-shift.false x.invariant.2 c.if-b-lt128.true (λ z. absurd (c.if-b-eq0.false z)))
+    -- a group of 0 is the only one
+    let only : (w.wide-b.result ≡ 0 → x.shift ≡ 0) = λ z. ⊎_elim (λ none. omega (arith, none.1)) (λ some. absurd (some z)) c.else-b-eq0.either in
+    sym (x.invariant.3 ∙ code-last a.s.now a.at x.i x.shift x.value w.wide-b.result (byte w) (byte_fits w) w.if-shift-gt63.false w.if-s-i.false c.if-part-shift.false x.invariant.2 c.if-b-lt128.true only)

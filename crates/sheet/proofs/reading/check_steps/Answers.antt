@@ -1,12 +1,10 @@
-use Prim.Native.Nat.{◌-◌, ◌<◌}
-use mathlib.Core.Path.{◌≡◌, sym, ap, ◌∙◌}
+use Prim.Native.Nat.{◌-◌}
+use mathlib.Core.Path.{◌≡◌, sym, ◌∙◌}
 use native.Mathlib.Omega.{arith}
 use borrow.Author.Rules.{rules}
 use borrow.Author.Tests.{lt-ltb, le-ltb}
 use lib.ListN.{length}
-use Rattle.sheet.specs.Got.{got}
-use Rattle.sheet.specs.Step.{step, step_at}
-use Rattle.sheet.specs.Found.{step_found}
+use Rattle.sheet.proofs.Refusals.{check-refused}
 use Rattle.sheet.proofs.Parts.{steps-done, turn_step, turn-refused, verdict-put}
 use Rattle.sheet.proofs.reading.check_steps.Goals as goal
 
@@ -18,18 +16,12 @@ loop-k-init c =
 pub loop-k-preserved : goal.loop-k-preserved
 loop-k-preserved c =
     let x = c.loop-k in
-    let a = c.args in
-    let lt : x.k < a.n = c.loop-k-test.true in
-    let h : step_at a.s.now x.at x.k ≡ got (step c.in-Step.field-0 c.in-Step.field-1 c.in-Step.field-2 c.in-Step.field-3) c.in-Step.next = sym c.read_step.ensures ∙ ap step_found c.in-Step.is in
-    (omega arith, x.invariant.1 ∙ rw (turn_step a.n x.k a.s.now x.at _ _ lt h, verdict-put))
+    (omega arith, x.invariant.1 ∙ rw (turn_step c.args.n x.k c.args.s.now x.at _ _ c.loop-k-test.true (sym c.in_ok-next.ensures), verdict-put))
 
-pub returns-in-Refused : goal.returns-in-Refused
-returns-in-Refused c =
+pub returns-in_err-next : goal.returns-in_err-next
+returns-in_err-next c =
     let x = c.loop-k in
-    let a = c.args in
-    let lt : x.k < a.n = c.loop-k-test.true in
-    let h = sym c.read_step.ensures ∙ ap step_found c.in-Refused.is in
-    rw (x.invariant.1, turn-refused a.n x.k a.s.now x.at _ _ lt h)
+    check-refused c.from_residual.result _ c.from_residual.ensures.1 ∙ rw (x.invariant.1, turn-refused c.args.n x.k c.args.s.now x.at _ _ c.loop-k-test.true (sym c.in_err-next.ensures))
 
 pub returns-then-at-s : goal.returns-then-at-s
 returns-then-at-s c =
@@ -37,8 +29,8 @@ returns-then-at-s c =
     let a = c.args in
     rw (x.invariant.1, steps-done a.n x.k a.s.now x.at c.loop-k-test.false, lt-ltb x.at (length a.s.now) c.if-at-s.true)
 
-pub returns-else-at-s : goal.returns-else-at-s
-returns-else-at-s c =
+pub returns : goal.returns
+returns c =
     let x = c.loop-k in
     let a = c.args in
     rw (x.invariant.1, steps-done a.n x.k a.s.now x.at c.loop-k-test.false, le-ltb x.at (length a.s.now) c.if-at-s.false)

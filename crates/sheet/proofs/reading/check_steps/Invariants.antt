@@ -6,6 +6,3 @@ use Rattle.sheet.proofs.reading.check_steps.Given as goal
 
 abbrev pub invariant-loop-k : goal.invariant-loop-k
 invariant-loop-k l = (l.k ≤ l.n) × (verdict_of (steps_from l.n l.s 0 l.from) ≡ verdict_of (steps_from (l.n - l.k) l.s l.k l.at))
-
-abbrev pub decreases-loop-k : goal.decreases-loop-k
-decreases-loop-k l = l.n - l.k

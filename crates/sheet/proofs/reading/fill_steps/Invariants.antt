@@ -12,6 +12,3 @@ invariant-loop-k l =
     × (verdict_of (steps_from (l.n - l.k) l.s l.k l.at) ≡ fine)
     × (length l.out ≡ length l.initial.out)
     × (sets l.initial.out 0 (flat (steps_in (steps_from l.n l.s 0 l.from))) ≡ sets l.out (l.k * 4) (flat (steps_in (steps_from (l.n - l.k) l.s l.k l.at))))
-
-abbrev pub decreases-loop-k : goal.decreases-loop-k
-decreases-loop-k l = l.n - l.k

@@ -1,6 +1,7 @@
 use Rattle.sheet.specs.Signed.{fold_signed}
 use Rattle.sheet.specs.Number.{write_number}
 use Rattle.whole.specs.Whole.{up}
+use mathlib.Core.Logic.{⊎_elim}
 use lib.ListN.{length}
 use mir.Val.{of_z, to_z}
 use mir.Syntax.{w64}
@@ -13,13 +14,8 @@ pub returns-in-Signed : goal.returns-in-Signed
 returns-in-Signed c =
     let x = c.args.x in
     let e : to_z w64 (of_z w64 x) ≡ x = search rules in
-    rw c.in-Signed.is (c.width.ensures ∙ ap (λ (n : ℕ). length (write_number n)) (c.fold.ensures ∙ ap fold_signed e))
-
-pub returns-in-High : goal.returns-in-High
-returns-in-High c =
-    let x = c.args.x in
-    let e : to_z w64 (of_z w64 x) ≡ x = search rules in
-    rw c.in-High.is (c.width-in-High.ensures ∙ ap (λ (n : ℕ). length (write_number n)) (c.fold-in-High.ensures ∙ ap fold_signed e))
+    let r = c.width.ensures ∙ ap (λ (n : ℕ). length (write_number n)) (c.fold.ensures ∙ ap fold_signed e) in
+    ⊎_elim (λ is. rw is r) (λ is. rw is r) c.in-Signed.is
 
 pub returns-in-Earlier : goal.returns-in-Earlier
 returns-in-Earlier c =

@@ -3,18 +3,14 @@ use Rattle.whole.specs.Whole.{up}
 use mir.ValLaws.{to_z-of_z}
 use mir.Syntax.{w64}
 use native.Mathlib.Omega.{arith}
+use mathlib.Core.Logic.{⊎_elim}
 use mathlib.Core.Path.{refl, ap, ◌∙◌}
 use Rattle.sheet.proofs.writing.fill_field.Goals as goal
 
 pub fill_number-requires : goal.fill_number-requires
 fill_number-requires c =
     let n = c.fold.ensures ∙ ap fold_signed (to_z-of_z w64 c.args.x c.ranges.x) in
-    rw n (rw c.in-Signed.is at c.requires)
-
-pub fill_number-requires-in-High : goal.fill_number-requires-in-High
-fill_number-requires-in-High c =
-    let n = c.fold-in-High.ensures ∙ ap fold_signed (to_z-of_z w64 c.args.x c.ranges.x) in
-    rw n (rw c.in-High.is at c.requires)
+    ⊎_elim (λ is. rw n (rw is at c.requires)) (λ is. rw n (rw is at c.requires)) c.in-Signed.is
 
 pub fill_number-requires-in-Earlier : goal.fill_number-requires-in-Earlier
 fill_number-requires-in-Earlier c =
@@ -27,12 +23,8 @@ returns-in-Unused c = rw c.in-Unused.is (omega arith, refl)
 pub returns-in-Signed : goal.returns-in-Signed
 returns-in-Signed c =
     let n = c.fold.ensures ∙ ap fold_signed (to_z-of_z w64 c.args.x c.ranges.x) in
-    rw c.in-Signed.is (rw n at c.fill_number.ensures)
-
-pub returns-in-High : goal.returns-in-High
-returns-in-High c =
-    let n = c.fold-in-High.ensures ∙ ap fold_signed (to_z-of_z w64 c.args.x c.ranges.x) in
-    rw c.in-High.is (rw n at c.fill_number-in-High.ensures)
+    let r = rw n at c.fill_number.ensures in
+    ⊎_elim (λ is. rw is r) (λ is. rw is r) c.in-Signed.is
 
 pub returns-in-Earlier : goal.returns-in-Earlier
 returns-in-Earlier c =

@@ -2,7 +2,7 @@ use lib.Seq.{sets}
 use Rattle.sheet.specs.Sheet.{steps_bytes, steps_of}
 use lib.ListN.{length, drop}
 use mathlib.Core.Path.{◌≡◌}
-use Prim.Native.Nat.{◌+◌, ◌-◌, ◌*◌, ◌≤◌}
+use Prim.Native.Nat.{◌+◌, ◌*◌, ◌≤◌}
 use Rattle.sheet.proofs.writing.fill_listed.Given as goal
 
 abbrev pub invariant-loop-k : goal.invariant-loop-k
@@ -11,6 +11,3 @@ invariant-loop-k l =
     × (length l.out ≡ length l.initial.out)
     × (l.at + length (steps_bytes (steps_of (drop (l.k * 4) l.steps))) ≤ length l.initial.out)
     × (sets l.initial.out l.from (steps_bytes (steps_of l.steps)) ≡ sets l.out l.at (steps_bytes (steps_of (drop (l.k * 4) l.steps))))
-
-abbrev pub decreases-loop-k : goal.decreases-loop-k
-decreases-loop-k l = l.n - l.k

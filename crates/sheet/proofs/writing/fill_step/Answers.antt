@@ -13,6 +13,7 @@ use native.Mathlib.Omega.{arith}
 use mathlib.Core.List.{List, ◌++◌, append_assoc}
 use mathlib.Core.Path.{◌≡◌, ap, ◌∙◌}
 use Prim.Native.Nat.{ℕ, ◌+◌, ◌≤◌}
+use borrow.Author.Rules.{rules}
 use Rattle.sheet.proofs.writing.fill_step.Goals as goal
 use Rattle.sheet.proofs.writing.fill_step.Goals.{After-fields_of-f, After-fill_field, After-fill_field-q, After-fill_field-t, After-fill_number-p, Start}
 
@@ -30,42 +31,42 @@ abbrev field₃ : ℤ → ℤ → List ℕ
 field₃ op z = field_bytes (third (row_of op)) z
 
 -- there is room for all four
-enough : (s : Start) → s.args.at + (length (opening s.args.op) + length (field₁ s.args.op s.args.x) + length (field₂ s.args.op s.args.y) + length (field₃ s.args.op s.args.z)) ≤ length s.args.out.now
+enough : (s : Start) → s.args.at + (length (opening s.args.step.operator) + length (field₁ s.args.step.operator s.args.step.a) + length (field₂ s.args.step.operator s.args.step.b) + length (field₃ s.args.step.operator s.args.step.c)) ≤ length s.args.out.now
 enough s = rw step-parts at s.requires
 
-number_is : (w : After-fields_of-f) → w.natural-o.result ≡ up w.args.op
-number_is w = w.natural-o.ensures ∙ ap up (to_z-of_z w64 w.args.op w.ranges.op)
+number_is : (w : After-fields_of-f) → w.natural-o.result ≡ up w.args.step.operator
+number_is w = w.natural-o.ensures ∙ ap up (to_z-of_z w64 w.args.step.operator (search rules))
 
-row_is : (w : After-fields_of-f) → w.fields_of-f.result ≡ row_of w.args.op
+row_is : (w : After-fields_of-f) → w.fields_of-f.result ≡ row_of w.args.step.operator
 row_is w = w.fields_of-f.ensures ∙ ap fields_of (number_is w)
 
 -- what is stored after each part
-filled₀ : (w : After-fill_number-p) → w.natural-o.result ≡ up w.args.op → Filled w.args.out.now w.args.at (opening w.args.op) w.fill_number-p.result w.fill_number-p.new.out
+filled₀ : (w : After-fill_number-p) → w.natural-o.result ≡ up w.args.step.operator → Filled w.args.out.now w.args.at (opening w.args.step.operator) w.fill_number-p.result w.fill_number-p.new.out
 filled₀ w n = rw n at w.fill_number-p.ensures
 
-filled₁ : (w : After-fill_field-q) → w.fields_of-f.result ≡ row_of w.args.op →
-    Filled w.args.out.now w.args.at (opening w.args.op) w.fill_number-p.result w.fill_number-p.new.out →
-    Filled w.args.out.now w.args.at (opening w.args.op ++ field₁ w.args.op w.args.x) w.fill_field-q.result w.fill_field-q.new.out
+filled₁ : (w : After-fill_field-q) → w.fields_of-f.result ≡ row_of w.args.step.operator →
+    Filled w.args.out.now w.args.at (opening w.args.step.operator) w.fill_number-p.result w.fill_number-p.new.out →
+    Filled w.args.out.now w.args.at (opening w.args.step.operator ++ field₁ w.args.step.operator w.args.step.a) w.fill_field-q.result w.fill_field-q.new.out
 filled₁ w r f =
     let a = w.args in
     let e = w.first.ensures ∙ ap first r in
-    filled-then _ _ (opening a.op) (field₁ a.op a.x) _ _ f _ _ (rw (e, to_z-of_z w64 a.x w.ranges.x) at w.fill_field-q.ensures)
+    filled-then _ _ (opening a.step.operator) (field₁ a.step.operator a.step.a) _ _ f _ _ (rw (e, to_z-of_z w64 a.step.a (search rules)) at w.fill_field-q.ensures)
 
-filled₂ : (w : After-fill_field-t) → w.fields_of-f.result ≡ row_of w.args.op →
-    Filled w.args.out.now w.args.at (opening w.args.op ++ field₁ w.args.op w.args.x) w.fill_field-q.result w.fill_field-q.new.out →
-    Filled w.args.out.now w.args.at ((opening w.args.op ++ field₁ w.args.op w.args.x) ++ field₂ w.args.op w.args.y) w.fill_field-t.result w.fill_field-t.new.out
+filled₂ : (w : After-fill_field-t) → w.fields_of-f.result ≡ row_of w.args.step.operator →
+    Filled w.args.out.now w.args.at (opening w.args.step.operator ++ field₁ w.args.step.operator w.args.step.a) w.fill_field-q.result w.fill_field-q.new.out →
+    Filled w.args.out.now w.args.at ((opening w.args.step.operator ++ field₁ w.args.step.operator w.args.step.a) ++ field₂ w.args.step.operator w.args.step.b) w.fill_field-t.result w.fill_field-t.new.out
 filled₂ w r f =
     let a = w.args in
     let e = w.second.ensures ∙ ap second r in
-    filled-then _ _ (opening a.op ++ field₁ a.op a.x) (field₂ a.op a.y) _ _ f _ _ (rw (e, to_z-of_z w64 a.y w.ranges.y) at w.fill_field-t.ensures)
+    filled-then _ _ (opening a.step.operator ++ field₁ a.step.operator a.step.a) (field₂ a.step.operator a.step.b) _ _ f _ _ (rw (e, to_z-of_z w64 a.step.b (search rules)) at w.fill_field-t.ensures)
 
-filled₃ : (w : After-fill_field) → w.fields_of-f.result ≡ row_of w.args.op →
-    Filled w.args.out.now w.args.at ((opening w.args.op ++ field₁ w.args.op w.args.x) ++ field₂ w.args.op w.args.y) w.fill_field-t.result w.fill_field-t.new.out →
-    Filled w.args.out.now w.args.at (((opening w.args.op ++ field₁ w.args.op w.args.x) ++ field₂ w.args.op w.args.y) ++ field₃ w.args.op w.args.z) w.fill_field.result w.fill_field.new.out
+filled₃ : (w : After-fill_field) → w.fields_of-f.result ≡ row_of w.args.step.operator →
+    Filled w.args.out.now w.args.at ((opening w.args.step.operator ++ field₁ w.args.step.operator w.args.step.a) ++ field₂ w.args.step.operator w.args.step.b) w.fill_field-t.result w.fill_field-t.new.out →
+    Filled w.args.out.now w.args.at (((opening w.args.step.operator ++ field₁ w.args.step.operator w.args.step.a) ++ field₂ w.args.step.operator w.args.step.b) ++ field₃ w.args.step.operator w.args.step.c) w.fill_field.result w.fill_field.new.out
 filled₃ w r f =
     let a = w.args in
     let e = w.third.ensures ∙ ap third r in
-    filled-then _ _ ((opening a.op ++ field₁ a.op a.x) ++ field₂ a.op a.y) (field₃ a.op a.z) _ _ f _ _ (rw (e, to_z-of_z w64 a.z w.ranges.z) at w.fill_field.ensures)
+    filled-then _ _ ((opening a.step.operator ++ field₁ a.step.operator a.step.a) ++ field₂ a.step.operator a.step.b) (field₃ a.step.operator a.step.c) _ _ f _ _ (rw (e, to_z-of_z w64 a.step.c (search rules)) at w.fill_field.ensures)
 
 pub fill_number-p-requires : goal.fill_number-p-requires
 fill_number-p-requires c =
@@ -78,7 +79,7 @@ fill_field-q-requires c =
     let w = (goal.at.fill_field-q-requires c).After-fields_of-f in
     let f₀ = filled₀ (goal.at.fill_field-q-requires c).After-fill_number-p (number_is w) in
     let e = c.first.ensures ∙ ap first (row_is w) in
-    rw (e, to_z-of_z w64 a.x c.ranges.x) (room-then _ _ (opening a.op) (field₁ a.op a.x) _ _ f₀ (omega (arith, enough (goal.at.fill_field-q-requires c).Start)))
+    rw (e, to_z-of_z w64 a.step.a (search rules)) (room-then _ _ (opening a.step.operator) (field₁ a.step.operator a.step.a) _ _ f₀ (omega (arith, enough (goal.at.fill_field-q-requires c).Start)))
 
 pub fill_field-t-requires : goal.fill_field-t-requires
 fill_field-t-requires c =
@@ -87,7 +88,7 @@ fill_field-t-requires c =
     let f₀ = filled₀ (goal.at.fill_field-t-requires c).After-fill_number-p (number_is w) in
     let f₁ = filled₁ (goal.at.fill_field-t-requires c).After-fill_field-q (row_is w) f₀ in
     let e = c.second.ensures ∙ ap second (row_is w) in
-    rw (e, to_z-of_z w64 a.y c.ranges.y) (room-then _ _ (opening a.op ++ field₁ a.op a.x) (field₂ a.op a.y) _ _ f₁ (simp length-append (omega (arith, enough (goal.at.fill_field-t-requires c).Start))))
+    rw (e, to_z-of_z w64 a.step.b (search rules)) (room-then _ _ (opening a.step.operator ++ field₁ a.step.operator a.step.a) (field₂ a.step.operator a.step.b) _ _ f₁ (simp length-append (omega (arith, enough (goal.at.fill_field-t-requires c).Start))))
 
 pub fill_field-requires : goal.fill_field-requires
 fill_field-requires c =
@@ -97,7 +98,7 @@ fill_field-requires c =
     let f₁ = filled₁ (goal.at.fill_field-requires c).After-fill_field-q (row_is w) f₀ in
     let f₂ = filled₂ (goal.at.fill_field-requires c).After-fill_field-t (row_is w) f₁ in
     let e = c.third.ensures ∙ ap third (row_is w) in
-    rw (e, to_z-of_z w64 a.z c.ranges.z) (room-then _ _ ((opening a.op ++ field₁ a.op a.x) ++ field₂ a.op a.y) (field₃ a.op a.z) _ _ f₂ (simp length-append (omega (arith, enough (goal.at.fill_field-requires c).Start))))
+    rw (e, to_z-of_z w64 a.step.c (search rules)) (room-then _ _ ((opening a.step.operator ++ field₁ a.step.operator a.step.a) ++ field₂ a.step.operator a.step.b) (field₃ a.step.operator a.step.c) _ _ f₂ (simp length-append (omega (arith, enough (goal.at.fill_field-requires c).Start))))
 
 pub returns : goal.returns
 unfolding step_bytes

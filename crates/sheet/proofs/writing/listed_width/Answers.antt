@@ -32,9 +32,6 @@ loop-k-init c = (search rules, search rules, omega arith)
 pub overflow_add-sum : goal.overflow_add-sum
 overflow_add-sum c = record { fits = omega (arith, small (goal.at.overflow_add-sum c).After-step_width-sum) }
 
-pub loop-k-smaller : goal.loop-k-smaller
-loop-k-smaller c = omega arith
-
 pub loop-k-preserved : goal.loop-k-preserved
 loop-k-preserved c =
     let w = (goal.at.loop-k-preserved c).After-step_width-sum in

@@ -14,15 +14,15 @@ loop-m-init c = (search rules, search rules, omega arith)
 pub loop-m-smaller : goal.loop-m-smaller
 loop-m-smaller c =
     let x = c.loop-m in
-    omega (arith, not-tenth x.k x.m x.invariant.0 x.invariant.1 c.if-m-lt128.false)
+    omega (arith, not-tenth x.k x.m x.invariant.0 x.invariant.1 c.loop-m-test.true)
 
 pub loop-m-preserved : goal.loop-m-preserved
 loop-m-preserved c =
     let x = c.loop-m in
-    let lt : x.k < 9 = not-tenth x.k x.m x.invariant.0 x.invariant.1 c.if-m-lt128.false in
-    (omega arith, shorter x.k x.m lt x.invariant.1, omega (arith, ap length (groups-more x.k x.m lt c.if-m-lt128.false), x.invariant.2))
+    let lt : x.k < 9 = not-tenth x.k x.m x.invariant.0 x.invariant.1 c.loop-m-test.true in
+    (omega arith, shorter x.k x.m lt x.invariant.1, omega (arith, ap length (groups-more x.k x.m lt c.loop-m-test.true), x.invariant.2))
 
 pub returns : goal.returns
 returns c =
     let x = c.loop-m in
-    omega (arith, ap length (groups-last (9 - x.k) x.m c.if-m-lt128.true), x.invariant.2)
+    omega (arith, ap length (groups-last (9 - x.k) x.m c.loop-m-test.false), x.invariant.2)

@@ -1,33 +1,33 @@
-use borrow.Enum.Refused.{opened}
-use mathlib.Core.List.{[]}
 use mathlib.Core.Path.{◌≡◌, refl, ◌∙◌}
-use mathlib.Core.List.{◌∷◌}
-use Rattle.whole.specs.declared.Order.TheVariants.{Less, Greater}
 use Rattle.sign.specs.Ported as ported
 use Rattle.sign.specs.Ported.{sub, add, neg}
 use Rattle.sign.specs.Mended.{weak_cmp}
-use Rattle.sign.proofs.Cells.{orders}
-use Rattle.sign.proofs.Keys.{arm, two}
+use Rattle.sign.specs.declared.Sign.{Sign}
+use Rattle.sign.specs.declared.Sign.TheVariants.{Top, Bottom, Negative, Zero, Positive, NonNeg, NonZero, NonPos}
 use Rattle.sign.proofs.mended.weak_cmp.Goals as goal
+use Rattle.sign.proofs.mended.weak_cmp.Goals.{in_default-via-in-Zero+in_default, in_default-via-in_default}
 
--- `sign::mended::weak_cmp` meets its contract: the two cells, and the ported table elsewhere.
--- Assumes nothing.
-
-pub returns-in-NonNeg : goal.returns-in-NonNeg
+-- the two rules agree but for two cells
+agree : (a b : Sign) → (a ≡ Zero → b ≡ NonNeg → ⊥) → (a ≡ Zero → b ≡ NonPos → ⊥) → ported.weak_cmp a b ≡ weak_cmp a b
 unfolding weak_cmp ported.weak_cmp sub add neg
-returns-in-NonNeg c = two orders (λ s t. Less) weak_cmp (3 ∷ []) (5 ∷ []) tt c.args.a c.args.b c.in-Zero.in-Zero-own.keys1 c.in-NonNeg.in-NonNeg-own.keys1
-
-pub returns-in-NonPos : goal.returns-in-NonPos
-unfolding weak_cmp ported.weak_cmp sub add neg
-returns-in-NonPos c = two orders (λ s t. Greater) weak_cmp (3 ∷ []) (7 ∷ []) tt c.args.a c.args.b c.in-Zero.in-Zero-own.keys1 c.in-NonPos.in-NonPos-own.keys2
-
-pub returns-in_default-b : goal.returns-in_default-b
-unfolding weak_cmp ported.weak_cmp sub add neg
-returns-in_default-b c = let d = c.args in c.weak_cmp.ensures ∙ two orders ported.weak_cmp weak_cmp (3 ∷ []) (0 ∷ 1 ∷ 2 ∷ 3 ∷ 4 ∷ 6 ∷ []) tt d.a d.b c.in-Zero.in-Zero-own.keys1 (opened c.in_default-b.in_default-b-own.keys3)
+agree Top b h k = refl
+agree Bottom b h k = refl
+agree Negative b h k = refl
+agree Positive b h k = refl
+agree NonNeg b h k = refl
+agree NonZero b h k = refl
+agree NonPos b h k = refl
+agree Zero Top h k = refl
+agree Zero Bottom h k = refl
+agree Zero Negative h k = refl
+agree Zero Zero h k = refl
+agree Zero Positive h k = refl
+agree Zero NonZero h k = refl
+agree Zero NonNeg h k = absurd (h refl refl)
+agree Zero NonPos h k = absurd (k refl refl)
 
 pub returns-in_default : goal.returns-in_default
-unfolding weak_cmp ported.weak_cmp
-returns-in_default c =
-    let d = c.args in
-    c.weak_cmp-in_default.ensures ∙ arm (λ s. ported.weak_cmp s d.b ≡ weak_cmp s d.b) (0 ∷ 1 ∷ 2 ∷ 4 ∷ 5 ∷ 6 ∷ 7 ∷ [])
-    (refl, (refl, (refl, (refl, (refl, (refl, (refl, tt))))))) d.a (opened c.in_default.in_default-own.keys2)
+returns-in_default c = elim c.in_default.branch [
+  | in_default-via-in-Zero+in_default w ↦ c.weak_cmp.ensures ∙ agree _ _ (λ p e. w.in_default.not-NonNeg-1 e) (λ p e. w.in_default.not-NonPos-1 e)
+  | in_default-via-in_default w ↦ c.weak_cmp.ensures ∙ agree _ _ (λ e p. w.in_default.not-Zero-0 e) (λ e p. w.in_default.not-Zero-0 e)
+]

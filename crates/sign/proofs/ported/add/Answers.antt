@@ -8,4 +8,4 @@ use Rattle.sign.proofs.ported.add.Goals as goal
 -- Assumes nothing.
 pub returns : goal.returns
 unfolding add
-returns c = reads signs ADDITION Top add tt c.index_of-i.result c.index_of-j.result c.args.a c.args.b c.index_of-i.ensures c.index_of-j.ensures
+returns c = reads signs ADDITION Top add tt c.index_of.result c.index_of-2.result c.args.a c.args.b c.index_of.ensures c.index_of-2.ensures

@@ -8,4 +8,4 @@ use Rattle.sign.proofs.ported.mul.Goals as goal
 -- Assumes nothing.
 pub returns : goal.returns
 unfolding mul
-returns c = reads signs MULTIPLICATION Top mul tt c.index_of-i.result c.index_of-j.result c.args.a c.args.b c.index_of-i.ensures c.index_of-j.ensures
+returns c = reads signs MULTIPLICATION Top mul tt c.index_of.result c.index_of-2.result c.args.a c.args.b c.index_of.ensures c.index_of-2.ensures

@@ -2,9 +2,12 @@ use mathlib.Core.Path.{refl, ap, ◌∙◌}
 use mir.Syntax.{w64}
 use mir.Val.{SFits}
 use mir.Facts.{to_z-of_z}
+use Rattle.std.specs.Prelude.{Ok}
 use Rattle.whole.specs.Sized.{width_of}
-use Rattle.step.specs.Range.{shows, fitting_all, divided_all, logical_all, range_op}
+use Rattle.step.specs.Range.{fitting_all, range_op}
 use borrow.Author.Rules.{rules}
+use Rattle.interval.specs.Mended.{join}
+use Rattle.step.proofs.Calls.{bit-passed, bit-stopped, chosen, divisor-passed, divisor-stopped, handed}
 use Rattle.step.proofs.range.range.Goals as goal
 
 pub returns-in-Constant : goal.returns-in-Constant
@@ -23,33 +26,9 @@ pub returns-in-Mul : goal.returns-in-Mul
 unfolding range_op
 returns-in-Mul c = rw c.in-Mul.is (c.fitting-in-Mul.ensures ∙ ap fitting_all c.mul.ensures)
 
-pub returns-in-Div : goal.returns-in-Div
-unfolding range_op
-returns-in-Div c =
-    let a = c.args in
-    rw c.in-Div.is (c.divided.ensures ∙ ap (divided_all (width_of a.size) a.i a.j) (c.fitting-in-Div.ensures ∙ ap fitting_all c.div.ensures))
-
-pub returns-in-Rem : goal.returns-in-Rem
-unfolding range_op
-returns-in-Rem c =
-    let a = c.args in
-    rw c.in-Rem.is (c.divided-in-Rem.ensures ∙ ap (divided_all (width_of a.size) a.i a.j) (c.fitting-in-Rem.ensures ∙ ap fitting_all c.rem.ensures))
-
 pub returns-in-Equals : goal.returns-in-Equals
 unfolding range_op
 returns-in-Equals c = rw c.in-Equals.is (c.fitting-in-Equals.ensures ∙ ap fitting_all c.equals.ensures)
-
-pub returns-in-And : goal.returns-in-And
-unfolding range_op
-returns-in-And c =
-    let a = c.args in
-    rw c.in-And.is (c.logical-in-And.ensures ∙ ap (logical_all a.i) (c.logical.ensures ∙ ap (λ v. logical_all a.j (shows v)) c.logical_and.ensures))
-
-pub returns-in-Or : goal.returns-in-Or
-unfolding range_op
-returns-in-Or c =
-    let a = c.args in
-    rw c.in-Or.is (c.logical-in-Or-2.ensures ∙ ap (logical_all a.i) (c.logical-in-Or.ensures ∙ ap (λ v. logical_all a.j (shows v)) c.logical_or.ensures))
 
 pub returns-in-Less : goal.returns-in-Less
 unfolding range_op
@@ -67,14 +46,90 @@ pub returns-in-GreaterOrEqual : goal.returns-in-GreaterOrEqual
 unfolding range_op
 returns-in-GreaterOrEqual c = rw c.in-GreaterOrEqual.is (c.fitting-in-GreaterOrEqual.ensures ∙ ap fitting_all c.greater_or_equal.ensures)
 
-pub returns-in-Not : goal.returns-in-Not
-unfolding range_op
-returns-in-Not c = rw c.in-Not.is (c.logical-in-Not.ensures ∙ ap (λ v. logical_all c.args.i (shows v)) c.logical_not.ensures)
-
 pub returns-in-Same : goal.returns-in-Same
 unfolding range_op
 returns-in-Same c = rw c.in-Same.is refl
 
-pub returns-in-Choose : goal.returns-in-Choose
+pub returns-in_err-divisible-in-Div : goal.returns-in_err-divisible-in-Div
 unfolding range_op
-returns-in-Choose c = rw c.in-Choose.is (c.logical-in-Choose.ensures ∙ ap (λ v. logical_all c.args.i (shows v)) c.choice.ensures)
+returns-in_err-divisible-in-Div c =
+    let a = c.args in
+    rw c.in-Div.is (handed _ _ c.from_residual.ensures.1 ∙ divisor-stopped _ _ (width_of a.size) a.i a.j c.divisible.ensures _ c.in_err-divisible-in-Div.was)
+
+pub returns-in_ok-divisible-in-Div : goal.returns-in_ok-divisible-in-Div
+unfolding range_op
+returns-in_ok-divisible-in-Div c =
+    let a = c.args in
+    rw c.in-Div.is (c.fitting-in-Div.ensures ∙ (ap fitting_all c.div.ensures ∙ divisor-passed _ _ (width_of a.size) a.i a.j c.divisible.ensures _ c.in_ok-divisible-in-Div.was))
+
+pub returns-in_err-divisible-in-Rem : goal.returns-in_err-divisible-in-Rem
+unfolding range_op
+returns-in_err-divisible-in-Rem c =
+    let a = c.args in
+    rw c.in-Rem.is (handed _ _ c.from_residual-in_err-divisible-in-Rem.ensures.1 ∙ divisor-stopped _ _ (width_of a.size) a.i a.j c.divisible-in-Rem.ensures _ c.in_err-divisible-in-Rem.was)
+
+pub returns-in_ok-divisible-in-Rem : goal.returns-in_ok-divisible-in-Rem
+unfolding range_op
+returns-in_ok-divisible-in-Rem c =
+    let a = c.args in
+    rw c.in-Rem.is (c.fitting-in-Rem.ensures ∙ (ap fitting_all c.rem.ensures ∙ divisor-passed _ _ (width_of a.size) a.i a.j c.divisible-in-Rem.ensures _ c.in_ok-divisible-in-Rem.was))
+
+pub returns-in_err-logical-in-And : goal.returns-in_err-logical-in-And
+unfolding range_op
+returns-in_err-logical-in-And c =
+    let a = c.args in
+    rw c.in-And.is (handed _ _ c.from_residual-in_err-logical-in-And.ensures.1 ∙ bit-stopped _ _ a.i c.logical.ensures _ c.in_err-logical-in-And.was)
+
+pub returns-in_err-logical-in-And-2 : goal.returns-in_err-logical-in-And-2
+unfolding range_op
+returns-in_err-logical-in-And-2 c =
+    let a = c.args in
+    rw c.in-And.is (handed _ _ c.from_residual-in_err-logical-in-And-2.ensures.1 ∙ (bit-stopped _ _ a.j c.logical-in-And.ensures _ c.in_err-logical-in-And-2.was ∙ bit-passed _ _ a.i c.logical.ensures _ c.in_ok-logical-in-And.was))
+
+pub returns-in_ok-logical-in-And-2 : goal.returns-in_ok-logical-in-And-2
+unfolding range_op
+returns-in_ok-logical-in-And-2 c =
+    let a = c.args in
+    rw c.in-And.is (ap Ok c.logical_and.ensures ∙ (bit-passed _ _ a.j c.logical-in-And.ensures _ c.in_ok-logical-in-And-2.was ∙ bit-passed _ _ a.i c.logical.ensures _ c.in_ok-logical-in-And.was))
+
+pub returns-in_err-logical-in-Or : goal.returns-in_err-logical-in-Or
+unfolding range_op
+returns-in_err-logical-in-Or c =
+    let a = c.args in
+    rw c.in-Or.is (handed _ _ c.from_residual-in_err-logical-in-Or.ensures.1 ∙ bit-stopped _ _ a.i c.logical-in-Or.ensures _ c.in_err-logical-in-Or.was)
+
+pub returns-in_err-logical-in-Or-2 : goal.returns-in_err-logical-in-Or-2
+unfolding range_op
+returns-in_err-logical-in-Or-2 c =
+    let a = c.args in
+    rw c.in-Or.is (handed _ _ c.from_residual-in_err-logical-in-Or-2.ensures.1 ∙ (bit-stopped _ _ a.j c.logical-in-Or-2.ensures _ c.in_err-logical-in-Or-2.was ∙ bit-passed _ _ a.i c.logical-in-Or.ensures _ c.in_ok-logical-in-Or.was))
+
+pub returns-in_ok-logical-in-Or-2 : goal.returns-in_ok-logical-in-Or-2
+unfolding range_op
+returns-in_ok-logical-in-Or-2 c =
+    let a = c.args in
+    rw c.in-Or.is (ap Ok c.logical_or.ensures ∙ (bit-passed _ _ a.j c.logical-in-Or-2.ensures _ c.in_ok-logical-in-Or-2.was ∙ bit-passed _ _ a.i c.logical-in-Or.ensures _ c.in_ok-logical-in-Or.was))
+
+pub returns-in_err-logical-in-Not : goal.returns-in_err-logical-in-Not
+unfolding range_op
+returns-in_err-logical-in-Not c =
+    let a = c.args in
+    rw c.in-Not.is (handed _ _ c.from_residual-in_err-logical-in-Not.ensures.1 ∙ bit-stopped _ _ a.i c.logical-in-Not.ensures _ c.in_err-logical-in-Not.was)
+
+pub returns-in_err-logical-in-Choose : goal.returns-in_err-logical-in-Choose
+unfolding range_op
+returns-in_err-logical-in-Choose c =
+    let a = c.args in
+    rw c.in-Choose.is (handed _ _ c.from_residual-in_err-logical-in-Choose.ensures.1 ∙ bit-stopped _ _ a.i c.logical-in-Choose.ensures _ c.in_err-logical-in-Choose.was)
+
+pub returns-in_ok-logical-in-Not : goal.returns-in_ok-logical-in-Not
+unfolding range_op
+returns-in_ok-logical-in-Not c =
+    let a = c.args in
+    rw c.in-Not.is (ap Ok c.logical_not.ensures ∙ bit-passed _ _ a.i c.logical-in-Not.ensures _ c.in_ok-logical-in-Not.was)
+
+pub returns-in_ok-logical-in-Choose : goal.returns-in_ok-logical-in-Choose
+unfolding range_op
+returns-in_ok-logical-in-Choose c =
+    let a = c.args in
+    rw c.in-Choose.is (ap Ok (chosen a.i a.j a.k (join a.j a.k) c.unwrap_or_else.result c.settled.result _ c.settled.ensures c.unwrap_or_else.ensures (λ p. search rules)) ∙ bit-passed _ _ a.i c.logical-in-Choose.ensures _ c.in_ok-logical-in-Choose.was)

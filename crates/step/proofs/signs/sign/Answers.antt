@@ -4,6 +4,9 @@ use mir.Val.{SFits}
 use mir.Facts.{to_z-of_z}
 use Rattle.step.specs.Signs.{sign_op}
 use borrow.Author.Rules.{rules}
+use borrow.Author.Rules.{rules}
+use Rattle.sign.specs.Ported.{join}
+use Rattle.step.proofs.Calls.{chosen}
 use Rattle.step.proofs.signs.sign.Goals as goal
 
 pub returns-in-Constant : goal.returns-in-Constant
@@ -68,4 +71,6 @@ returns-in-Same c = rw c.in-Same.is refl
 
 pub returns-in-Choose : goal.returns-in-Choose
 unfolding sign_op
-returns-in-Choose c = rw c.in-Choose.is c.choice.ensures
+returns-in-Choose c =
+    let a = c.args in
+    rw c.in-Choose.is (chosen a.i a.t a.u (join a.t a.u) c.unwrap_or_else.result c.settled.result _ c.settled.ensures c.unwrap_or_else.ensures (λ p. search rules))

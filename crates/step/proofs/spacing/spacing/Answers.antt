@@ -4,6 +4,10 @@ use mir.Val.{SFits}
 use mir.Facts.{to_z-of_z}
 use Rattle.step.specs.Spacing.{value_of, spacing_op}
 use borrow.Author.Rules.{rules}
+use Rattle.whole.specs.Sized.{width_of}
+use Rattle.congruence.specs.Mended.{join}
+use borrow.Author.Rules.{rules}
+use Rattle.step.proofs.Calls.{chosen, value-called}
 use Rattle.step.proofs.spacing.spacing.Goals as goal
 
 pub returns-in-Constant : goal.returns-in-Constant
@@ -68,4 +72,6 @@ returns-in-Same c = rw c.in-Same.is
 
 pub returns-in-Choose : goal.returns-in-Choose
 unfolding spacing_op
-returns-in-Choose c = rw c.in-Choose.is c.choice.ensures
+returns-in-Choose c =
+    let a = c.args in
+    rw c.in-Choose.is (chosen a.i a.t a.u (value_of (join (width_of a.size) a.t a.u)) c.unwrap_or_else.result c.settled.result _ c.settled.ensures c.unwrap_or_else.ensures (λ p. search (value-called, rules)))

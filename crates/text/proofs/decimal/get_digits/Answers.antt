@@ -1,75 +1,41 @@
-use Prim.Native.Nat.{◌<◌, ◌+◌, ◌*◌}
-use mathlib.Core.Path.{◌≡◌, refl, sym, ◌∙◌}
-use native.Mathlib.Omega.{arith}
-use lib.ListN.{drop}
-use Rattle.text.specs.Number.{digit_at}
-use Rattle.text.proofs.Reading.{inside, total-more, many_more, total-stop, many-stop, total-above, none, large, value}
+use Rattle.std.proofs.Common.{◌≡◌, ◌+◌, ◌<◌, length, ◌*◌, ◌∙◌, refl, arith}
+use Rattle.text.proofs.Reading.{found-there, too-large, no-digit-is, a-digit-is, many-stop, total-stop, many_more, total-more, many-end, total-end}
 use Rattle.text.proofs.decimal.get_digits.Goals as goal
 
-pub loop-d-init : goal.loop-d-init
-loop-d-init c = (omega arith, omega arith, refl, refl)
+pub returns-in_default : goal.returns-in_default
+returns-in_default c =
+    let x = c.loop-n in
+    let r = c.rest-rest.result.now in
+    let l : x.n < length r = c.loop-n-test.true in
+    let e = no-digit-is _ c.in_default.ensures.cases in
+    c.found.ensures ∙ found-there c.args.s.now r c.args.at c.rest-rest.ensures x.n x.v (omega (arith, x.invariant.1, many-stop r x.n l e)) (x.invariant.0 ∙ total-stop r x.n x.v l e)
 
-pub overflow_mul-v : goal.overflow_mul-v
-overflow_mul-v c = omega arith
+pub returns-in_err-checked_mul : goal.returns-in_err-checked_mul
+returns-in_err-checked_mul c =
+    let x = c.loop-n in
+    let d = c.in-Some.ensures in
+    let s : c.in-Some.d < 10 = omega arith in
+    rw c.from_residual.ensures (too-large c.args.s.now c.rest-rest.result.now c.args.at c.rest-rest.ensures x.n x.v c.in-Some.d c.loop-n-test.true x.invariant.0 x.invariant.1 (a-digit-is _ _ s d.cases) s (omega (arith, c.in_err-checked_mul.ensures)))
 
-pub overflow_add-v : goal.overflow_add-v
-overflow_add-v c = omega arith
+pub returns-in_err-v : goal.returns-in_err-v
+returns-in_err-v c =
+    let x = c.loop-n in
+    let d = c.in-Some.ensures in
+    let s : c.in-Some.d < 10 = omega arith in
+    rw c.from_residual-in_err-v.ensures (too-large c.args.s.now c.rest-rest.result.now c.args.at c.rest-rest.ensures x.n x.v c.in-Some.d c.loop-n-test.true x.invariant.0 x.invariant.1 (a-digit-is _ _ s d.cases) s (omega (arith, c.in_err-v.ensures, c.in_ok-checked_mul.ensures)))
 
-pub overflow_add-i : goal.overflow_add-i
-overflow_add-i c =
-    let x = c.loop-d in
-    let a = c.args in
-    omega (arith, inside a.s.now x.i (omega (arith, c.digit_at-d.ensures)))
+pub loop-n-preserved : goal.loop-n-preserved
+loop-n-preserved c =
+    let x = c.loop-n in
+    let r = c.rest-rest.result.now in
+    let d = c.in-Some.ensures in
+    let s : c.in-Some.d < 10 = omega arith in
+    let is = a-digit-is _ _ s c.in-Some.ensures.cases in
+    let v : x.v * 10 + c.in-Some.d ≡ c.in_ok-v.v = omega (arith, c.in_ok-v.ensures, c.in_ok-checked_mul.ensures) in
+    (x.invariant.0 ∙ total-more r x.n c.loop-n-test.true c.in-Some.d is x.v s ∙ rw v refl, omega (arith, x.invariant.1, many_more r x.n c.loop-n-test.true c.in-Some.d is s))
 
-pub loop-d-smaller : goal.loop-d-smaller
-loop-d-smaller c =
-    let x = c.loop-d in
-    let a = c.args in
-    omega (arith, inside a.s.now x.i (omega (arith, c.digit_at-d.ensures)))
-
-pub loop-d-preserved : goal.loop-d-preserved
-loop-d-preserved c =
-    let x = c.loop-d in
-    let a = c.args in
-    let e : c.digit_at-d.result ≡ digit_at a.s.now x.i = c.digit_at-d.ensures in
-    let h : digit_at a.s.now x.i < 10 = omega (arith, e) in (
-      omega arith,
-      omega arith,
-      rw e (x.invariant.2 ∙ total-more a.s.now x.i x.v h),
-      omega (arith, x.invariant.3, many_more a.s.now x.i h),
-    )
-
-pub returns-then-i-at : goal.returns-then-i-at
-returns-then-i-at c =
-    let x = c.loop-d in
-    let a = c.args in
-    let e : c.digit_at-d.result ≡ digit_at a.s.now x.i = c.digit_at-d.ensures in
-    let h : 9 < digit_at a.s.now x.i = omega (arith, e) in
-    sym (none a.s.now a.at (omega (arith, x.invariant.3, many-stop a.s.now x.i h, c.if-i-at.true)))
-
-pub returns-then-v-gt9223372036854775808 : goal.returns-then-v-gt9223372036854775808
-returns-then-v-gt9223372036854775808 c =
-    let x = c.loop-d in
-    let a = c.args in
-    let e : c.digit_at-d.result ≡ digit_at a.s.now x.i = c.digit_at-d.ensures in
-    let h : 9 < digit_at a.s.now x.i = omega (arith, e) in
-    sym (large a.s.now a.at (λ z. c.if-i-at.false (omega (arith, x.invariant.3, many-stop a.s.now x.i h))) (omega (arith, x.invariant.2, total-stop a.s.now x.i x.v h, c.if-v-gt9223372036854775808.true)))
-
-pub returns-else-v-gt9223372036854775808 : goal.returns-else-v-gt9223372036854775808
-returns-else-v-gt9223372036854775808 c =
-    let x = c.loop-d in
-    let a = c.args in
-    let e : c.digit_at-d.result ≡ digit_at a.s.now x.i = c.digit_at-d.ensures in
-    let h : 9 < digit_at a.s.now x.i = omega (arith, e) in
-    let m = many-stop a.s.now x.i h in
-    sym (value a.s.now a.at x.v x.i (λ z. c.if-i-at.false (omega (arith, x.invariant.3, m))) (x.invariant.2 ∙ total-stop a.s.now x.i x.v h) (omega (arith, x.invariant.3, m)) c.if-v-gt9223372036854775808.false)
-
-pub returns-then-v-gt922337203685477580 : goal.returns-then-v-gt922337203685477580
-returns-then-v-gt922337203685477580 c =
-    let x = c.loop-d in
-    let a = c.args in
-    let e : c.digit_at-d.result ≡ digit_at a.s.now x.i = c.digit_at-d.ensures in
-    let h : digit_at a.s.now x.i < 10 = omega (arith, e) in
-    let m = many_more a.s.now x.i h in
-    let t = total-more a.s.now x.i x.v h in
-    sym (large a.s.now a.at (λ z. omega (arith, x.invariant.0, x.invariant.3, m)) (omega (arith, x.invariant.2, t, total-above (drop (x.i + 1) a.s.now) (x.v * 10 + digit_at a.s.now x.i), c.if-v-gt922337203685477580.true)))
+pub returns : goal.returns
+returns c =
+    let x = c.loop-n in
+    let r = c.rest-rest.result.now in
+    c.found-2.ensures ∙ found-there c.args.s.now r c.args.at c.rest-rest.ensures (length r) x.v (omega (arith, x.invariant.1, many-end r x.n (omega arith))) (x.invariant.0 ∙ total-end r x.n x.v (omega arith))

@@ -1,39 +1,29 @@
-use Prim.Native.Nat.{ℕ, zero, suc, ◌≤◌, ◌^◌}
-use mathlib.Core.Path.{◌≡◌, sym, ap, ◌∙◌}
-use native.Mathlib.Omega.{arith}
-use lib.IntN.{ℤ, pos, neg_ℤ}
-use mir.Syntax.{w64}
-use mir.Val.{SFits, to_z, of_z}
-use mir.ValLaws.{to_z-of_z}
+use Rattle.std.proofs.Common.{◌≡◌, ◌^◌, ap, ◌∙◌, refl}
 use borrow.Author.Tests.{lt-ltb, le-ltb}
-use Rattle.text.specs.declared.decimal.Digits.TheVariants.{Value, Not}
-use Rattle.text.specs.declared.decimal.Got.TheVariants.{Number}
-use Rattle.text.specs.Number.{digits_at, minus_at}
+use mir.Syntax.{w64}
+use mir.Val.{to_z, of_z}
+use mir.ValLaws.{to_z-of_z}
+use lib.IntN.{pos, neg_ℤ, ◌-ℤ◌, +ℤ_idl}
+use Rattle.text.specs.Number.{minus_of, minus_at}
+use Rattle.text.proofs.Reading.{minus-fits, minus-large}
 use Rattle.text.proofs.decimal.get_minus.Goals as goal
 
-fits-minus : (m : ℕ) → m ≤ 2 ^ 63 → SFits w64 (neg_ℤ (pos m))
-fits-minus zero h = record { sfits = omega arith }
-fits-minus (suc k) h = record { sfits = omega arith }
-
-there_and_back : (z : ℤ) (m : ℕ) → z ≡ neg_ℤ (pos m) → m ≤ 2 ^ 63 → to_z w64 (of_z w64 z) ≡ neg_ℤ (pos m)
-there_and_back z m e h = rw e (to_z-of_z w64 (neg_ℤ (pos m)) (fits-minus m h))
-
-pub returns-then-m-gt9223372036854775808 : goal.returns-then-m-gt9223372036854775808
+pub returns-in_err-m : goal.returns-in_err-m
 unfolding minus_at
-returns-then-m-gt9223372036854775808 c =
-    let a = c.args in
-    let h : digits_at a.s.now a.at ≡ Value c.in-Value.m c.in-Value.e = sym c.get_digits.ensures ∙ c.in-Value.is in
-    rw (h, lt-ltb (2 ^ 63) c.in-Value.m c.if-m-gt9223372036854775808.true)
+returns-in_err-m c = c.from_residual.ensures ∙ ap minus_of c.in_err-m.ensures
 
-pub returns-else-m-gt9223372036854775808 : goal.returns-else-m-gt9223372036854775808
+pub returns-in_err-checked_sub_unsigned : goal.returns-in_err-checked_sub_unsigned
 unfolding minus_at
-returns-else-m-gt9223372036854775808 c =
-    let a = c.args in
-    let h : digits_at a.s.now a.at ≡ Value c.in-Value.m c.in-Value.e = sym c.get_digits.ensures ∙ c.in-Value.is in
-    rw (h, le-ltb (2 ^ 63) c.in-Value.m c.if-m-gt9223372036854775808.false) (ap (λ (z : ℤ). Number z c.in-Value.e) (there_and_back c.minus.result c.in-Value.m c.minus.ensures c.if-m-gt9223372036854775808.false))
+returns-in_err-checked_sub_unsigned c =
+    c.from_residual-in_err-checked_sub_unsigned.ensures
+    ∙ rw (← c.in_ok-m.ensures, lt-ltb (2 ^ 63) c.in_ok-m.m (minus-large c.in_ok-m.m c.in_err-checked_sub_unsigned.ensures)) refl
 
-pub returns-in-Not : goal.returns-in-Not
+pub returns : goal.returns
 unfolding minus_at
-returns-in-Not c = let a = c.args in
-    let h : digits_at a.s.now a.at ≡ Not = sym c.get_digits.ensures ∙ c.in-Not.is in
-    rw h
+returns c =
+    let m = c.in_ok-m.m in
+    let f = c.in_ok-checked_sub_unsigned.ensures in
+    let b = minus-fits m f.0 in
+    let z : pos 0 -ℤ pos m ≡ neg_ℤ (pos m) = +ℤ_idl (neg_ℤ (pos m)) in
+    let e : to_z w64 (of_z w64 c.in_ok-checked_sub_unsigned.field-0) ≡ neg_ℤ (pos m) = rw f.1 (to_z-of_z w64 (pos 0 -ℤ pos m) f.0 ∙ z) in
+    rw (← c.in_ok-m.ensures, le-ltb (2 ^ 63) m b, e) refl

@@ -1,23 +1,16 @@
-use mathlib.Core.Path.{refl, ◌∙◌}
-use native.Mathlib.Omega.{arith}
-use lib.ListN.{length}
-use Rattle.text.specs.Decimal.{digits}
-use Rattle.text.proofs.Digits.{a-digit}
+use Rattle.std.proofs.Common.{◌∙◌}
 use Rattle.text.proofs.Room.{room, no_room}
+use Rattle.text.specs.Decimal.{digits}
 use Rattle.text.proofs.decimal.put_natural.Goals as goal
 
-pub returns-then-out-at : goal.returns-then-out-at
-returns-then-out-at c =
+pub returns-in_err-end : goal.returns-in_err-end
+returns-in_err-end c =
     let a = c.args in
-    no_room a.out.now a.at (length (digits a.n)) (digits a.n) refl (omega (arith, a-digit a.n))
+    rw c.from_residual.ensures (no_room a.out.now a.at _ (digits a.n) c.width-k.ensures c.in_err-end.ensures)
 
-pub returns-then-k-out : goal.returns-then-k-out
-returns-then-k-out c =
+pub returns : goal.returns
+returns c =
     let a = c.args in
-    let r = room a.out.now a.at c.width-k.result (digits a.n) c.width-k.ensures (omega arith) in
+    let f = c.in_ok-end.ensures in
+    let r = room a.out.now a.at c.width-k.result (digits a.n) c.width-k.ensures c.in_ok-end.end f.0 f.1 in
     (r.0, c.fill_digits.ensures ∙ r.1)
-
-pub returns-else-k-out : goal.returns-else-k-out
-returns-else-k-out c =
-    let a = c.args in
-    no_room a.out.now a.at c.width-k.result (digits a.n) c.width-k.ensures (omega arith)

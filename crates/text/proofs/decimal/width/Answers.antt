@@ -1,18 +1,9 @@
-use native.Mathlib.Omega.{arith}
-use Rattle.text.proofs.Digits.{longer, one-digit}
+use Rattle.std.proofs.Common.{sym, arith}
+use Rattle.text.proofs.Digits.{width-between, one-digit}
 use Rattle.text.proofs.decimal.width.Goals as goal
 
-pub loop-m-init : goal.loop-m-init
-loop-m-init c = (omega arith, omega arith)
+pub returns-in-Some : goal.returns-in-Some
+returns-in-Some c = sym (width-between c.in-Some.k c.args.n c.in-Some.ensures.power_le c.in-Some.ensures.next_power_gt)
 
-pub overflow_add-k : goal.overflow_add-k
-overflow_add-k c = omega arith
-
-pub loop-m-smaller : goal.loop-m-smaller
-loop-m-smaller c = omega arith
-
-pub loop-m-preserved : goal.loop-m-preserved
-loop-m-preserved c = (omega arith, omega (arith, longer c.loop-m.m c.loop-m-test.true))
-
-pub returns : goal.returns
-returns c = omega (arith, one-digit c.loop-m.m c.loop-m-test.false)
+pub returns-in-None : goal.returns-in-None
+returns-in-None c = sym (one-digit c.args.n (omega (arith, c.in-None.ensures.none)))

@@ -1,21 +1,17 @@
-use mathlib.Core.Path.{refl, ◌∙◌}
-use native.Mathlib.Omega.{arith}
-use lib.ListN.{length}
-use Rattle.text.proofs.Room.{room, no_room}
+use Rattle.std.proofs.Common.{◌≡◌, length, ◌-◌, ◌∙◌, refl, arith}
+use Rattle.text.proofs.Room.{room, no_room, copied}
 use Rattle.text.proofs.word.put_word.Goals as goal
 
-pub returns-then-out-at : goal.returns-then-out-at
-returns-then-out-at c =
+pub returns-in_err-end : goal.returns-in_err-end
+returns-in_err-end c =
     let a = c.args in
-    no_room a.out.now a.at (length a.word.now) a.word.now refl (omega arith)
-
-pub returns-then-out-at-2 : goal.returns-then-out-at-2
-returns-then-out-at-2 c =
-    let a = c.args in
-    no_room a.out.now a.at (length a.word.now) a.word.now refl (omega arith)
+    rw c.from_residual.ensures (no_room a.out.now a.at _ a.word.now refl c.in_err-end.ensures)
 
 pub returns : goal.returns
 returns c =
     let a = c.args in
-    let r = room a.out.now a.at (length a.word.now) a.word.now refl (omega arith) in
-    (r.0, c.fill_word.ensures ∙ r.1)
+    let w = a.word.now in
+    let f = c.in_ok-end.ensures in
+    let r = room a.out.now a.at (length w) w refl c.in_ok-end.end f.0 f.1 in
+    let k : c.in_ok-end.end - a.at ≡ length w = omega (arith, f.1) in
+    (r.0, rw (k, c.copy_from_slice.ensures.after) (copied a.out.now a.at (length w) w refl f.0 ∙ r.1))

@@ -1,11 +1,10 @@
-use mathlib.Core.List.{[]}
-use Prim.Native.Nat.{ℕ, ◌-◌, ◌+◌}
-use mathlib.Core.Path.{◌≡◌, sym, ap, ◌∙◌}
-use native.Mathlib.Omega.{arith}
-use mathlib.Core.List.{List}
-use lib.ListN.{take, drop}
-use Rattle.text.specs.Word.{letters, word_of, first_code, second_code}
-use Rattle.text.proofs.Words.{none-past, none_first, none-second}
+use Rattle.std.proofs.Common.{◌≡◌, ◌+◌, ℕ, ◌-◌, List, [], sym, ap, ◌∙◌, refl, arith, drop, take, Some, None, Option}
+use mathlib.Core.Logic.{⊎_elim}
+use denote.Bor.{Bor}
+use Rattle.std.specs.Option.{unwrap_or}
+use Rattle.std.specs.Slice.{IsGetRangeResult}
+use Rattle.text.specs.Word.{letters, word_of}
+use Rattle.text.proofs.Words.{none-past}
 use Rattle.text.proofs.word.word_at.Goals as goal
 
 -- the word between its place and its end
@@ -15,14 +14,11 @@ between s at e h =
     let n : e - at ≡ letters (drop at s) = omega arith in
     rw n
 
-pub returns-then-e-s : goal.returns-then-e-s
-returns-then-e-s c =
-    let a = c.args in
-    let b = between a.s.now a.at c.word_end-e.result c.word_end-e.ensures in
-    (c.word_end-e.ensures, c.first_code.ensures ∙ ap first_code b, c.second_code.ensures ∙ ap second_code b)
+part : (s : List ℕ) (at e : ℕ) (r : Option (Bor (List ℕ))) (d : Bor (List ℕ)) → d.now ≡ [] → e ≡ at + letters (drop at s) → IsGetRangeResult s at e r → (unwrap_or r d).now ≡ word_of s at
+part s at e None d h l p = h ∙ sym (none-past s at (⊎_elim (λ k. absurd (omega arith)) (λ k. omega arith) p.0))
+part s at e (Some x) d h l p = p.0.2 ∙ between s at e l
 
-pub returns-else-e-s : goal.returns-else-e-s
-returns-else-e-s c =
+pub returns : goal.returns
+returns c =
     let a = c.args in
-    let n : word_of a.s.now a.at ≡ [] = none-past a.s.now a.at (omega (arith, c.word_end-e.ensures)) in
-    (c.word_end-e.ensures, sym (ap first_code n ∙ none_first), sym (ap second_code n ∙ none-second))
+    ap (λ (b : Bor (List ℕ)). b.now) c.unwrap_or.ensures ∙ part a.s.now a.at c.word_end.result c.get.result _ refl c.word_end.ensures c.get.ensures.lookup

@@ -1,28 +1,12 @@
-use mathlib.Core.Path.{refl}
-use native.Mathlib.Omega.{arith}
-use Rattle.text.proofs.Words.{letters-end, letters-space, letters-more}
+use Rattle.std.proofs.Common.{rules, ◌+◌, ◌≤◌, ◌<◌, ℕ, sym, ap, ◌∙◌}
+use borrow.Author.Tests.{tests}
+use Rattle.std.proofs.lemmas.Iterator.{IsFirst-from_position, YieldsList-from_slice, index_from_first}
+use Rattle.text.specs.Word.{letters}
+use Rattle.text.proofs.Words.{letters_none, letters_space, letters_more}
 use Rattle.text.proofs.word.word_end.Goals as goal
-
-pub loop-i-init : goal.loop-i-init
-loop-i-init c = refl
-
-pub bounds-s-i : goal.bounds-s-i
-bounds-s-i c = omega arith
-
-pub returns-then-s-i-lt33 : goal.returns-then-s-i-lt33
-returns-then-s-i-lt33 c =
-    omega (arith, c.loop-i.invariant, letters-space c.args.s.now c.loop-i.i (omega arith) c.if-s-i-lt33.true)
-
-pub overflow_add-i : goal.overflow_add-i
-overflow_add-i c = omega arith
-
-pub loop-i-smaller : goal.loop-i-smaller
-loop-i-smaller c = omega arith
-
-pub loop-i-preserved : goal.loop-i-preserved
-loop-i-preserved c =
-    omega (arith, c.loop-i.invariant, letters-more c.args.s.now c.loop-i.i (omega arith) c.if-s-i-lt33.false)
 
 pub returns : goal.returns
 returns c =
-    omega (arith, c.loop-i.invariant, letters-end c.args.s.now c.loop-i.i c.loop-i-test.false)
+    let s = c.rest-rest.result.now in
+    let p = IsFirst-from_position _ _ c.position.result (λ x. x < 33) (λ x. 33 ≤ x) c.position.ensures.ran (YieldsList-from_slice s cc) (λ x q k. search (rules, tests)) (λ x q k. search (rules, tests)) in
+    ap (λ (k : ℕ). c.args.at + k) (c.unwrap_or.ensures ∙ sym (index_from_first letters (λ x. x < 33) (λ x. 33 ≤ x) letters_none letters_space letters_more s c.position.result p) ∙ ap letters c.rest-rest.ensures)

@@ -1,12 +1,12 @@
-use Rattle.whole.proofs.Sizes.{exact-called}
-use Rattle.whole.proofs.Flags.{flags}
 use Rattle.whole.specs.Sized.{held_to}
+use Rattle.whole.proofs.Flags.{flags}
+use Rattle.whole.proofs.Sizes.{exact-called}
 use Rattle.whole.proofs.Size.held.Goals as goal
 
-pub returns-in-Is : goal.returns-in-Is
+pub returns-in_err-e : goal.returns-in_err-e
 unfolding held_to
-returns-in-Is c = rw c.in-Is.is (search (exact-called, flags))
+returns-in_err-e c = rw (c.in_err-e.was, c.from_residual.ensures)
 
-pub returns-in-DoesNotFit : goal.returns-in-DoesNotFit
+pub returns : goal.returns
 unfolding held_to
-returns-in-DoesNotFit c = rw c.in-DoesNotFit.is
+returns c = rw c.in_ok-e.was (search (exact-called, flags))

@@ -1,8 +1,0 @@
-use Rattle.congruence.proofs.Values.{values}
-use Rattle.congruence.proofs.both_in_domain.Goals as goal
-
-pub returns-then-in_domain : goal.returns-then-in_domain
-returns-then-in_domain c = search values
-
-pub returns-else-in_domain : goal.returns-else-in_domain
-returns-else-in_domain c = search values

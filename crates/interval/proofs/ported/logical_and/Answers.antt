@@ -1,5 +1,0 @@
-use Rattle.interval.proofs.PortedCalls.{verdict-called}
-use Rattle.interval.proofs.ported.logical_and.Goals as goal
-
-pub returns : goal.returns
-returns c = search verdict-called

@@ -1,7 +1,0 @@
-use Rattle.interval.specs.Mended.{div}
-use Rattle.interval.proofs.Remainder.{strict-called}
-use Rattle.interval.proofs.sized.div.Goals as goal
-
-pub returns : goal.returns
-unfolding div
-returns c = search strict-called

@@ -1,7 +1,0 @@
-use borrow.Author.Rules.{rules}
-use Rattle.interval.specs.Mended.{greater_or_equal}
-use Rattle.interval.proofs.sized.greater_or_equal.Goals as goal
-
-pub returns : goal.returns
-unfolding greater_or_equal
-returns c = search rules

@@ -1,6 +1,0 @@
-use Rattle.interval.proofs.Calls.{made}
-use Rattle.whole.proofs.Flags.{flags}
-use Rattle.interval.proofs.sized.top.Goals as goal
-
-pub returns : goal.returns
-returns c = search (made, flags)

@@ -1,4 +1,0 @@
-use Rattle.step.proofs.spacing.value.Goals as goal
-
-pub returns-in-Refused : goal.returns-in-Refused
-returns-in-Refused c = cc
