@@ -7,7 +7,6 @@ use Rattle.refusal.specs.declared.Refusal.{Refusal}
 use Rattle.whole.specs.Test.{◌≟◌}
 use borrow.Author.Tests.{ne_eqb}
 use Rattle.whole.specs.Choice.{pick}
-use Rattle.whole.specs.Range.{fits?}
 use Rattle.whole.specs.Sized.{width_of}
 use Rattle.whole.specs.declared.Size.{Size}
 use Rattle.whole.proofs.Flags.{bools, told, was-false, was-true, and_yes, and_no, and-no-2, or_yes, or-yes-2, or_no}
@@ -35,12 +34,6 @@ or-is-no s t x h k = rw h k
 pub ruleset ors = (or_is, or-is-no, bools)
 
 pub ruleset ands = (both_is, and-is-no, ne_eqb, bools)
-
-pub ends-called : (i : Interval) (k l m n : ℤ) (r : Bool) → r ≡ ((i.min ≟ k) && (i.max ≟ m)) → k ≡ l → m ≡ n → r ≡ ((i.min ≟ l) && (i.max ≟ n))
-ends-called i k l m n r h p q = rw (p, q) at h
-
-pub fits-called : (s : Size) (x m : ℤ) (r : Bool) → r ≡ fits? (width_of s) m → m ≡ x → r ≡ fits? (width_of s) x
-fits-called s = called-1 (fits? (width_of s))
 
 -- whether an interval has a number
 pub holds-told : (i : Interval) (m n : ℤ) (r t : Bool) → r ≡ (m ∈? i) → m ≡ n → r ≡ t → (n ∈? i) ≡ t

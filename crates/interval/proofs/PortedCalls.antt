@@ -26,7 +26,7 @@ use Rattle.whole.proofs.Calls.{called-1, called, min-called, max-called}
 use Rattle.refusal.specs.declared.Refusal.{Refusal}
 use Rattle.refusal.specs.Number.{number_of}
 use Rattle.interval.specs.declared.Pair.{Pair}
-use Rattle.interval.specs.Set.{Interval, ◌⋯◌, single, is_only}
+use Rattle.interval.specs.Set.{Interval, ◌⋯◌, single}
 use Rattle.refusal.specs.Answer.{is, refused, told}
 use Rattle.interval.specs.Ends.{greatest_of}
 use Rattle.interval.specs.Mended.{verdict, filled}
@@ -69,12 +69,6 @@ neg_low = called-1 (λ x. pick (x ≟ greatest w64) (least w64) (neg_ℤ x))
 pub neg-high : (a m r : ℤ) → r ≡ pick (m ≟ least w64) (greatest w64) (neg_ℤ m) → m ≡ a → r ≡ pick (a ≟ least w64) (greatest w64) (neg_ℤ a)
 neg-high = called-1 (λ x. pick (x ≟ least w64) (greatest w64) (neg_ℤ x))
 
-pub least-four : (a k b l c m d n r : ℤ) → r ≡ min4 k l m n → k ≡ a → l ≡ b → m ≡ c → n ≡ d → r ≡ min4 a b c d
-least-four a k b l c m d n r h p q s t = rw (p, q, s, t) at h
-
-pub greatest-four : (a k b l c m d n r : ℤ) → r ≡ max4 k l m n → k ≡ a → l ≡ b → m ≡ c → n ≡ d → r ≡ max4 a b c d
-greatest-four a k b l c m d n r h p q s t = rw (p, q, s, t) at h
-
 pub spread-called : (a k b l c m d n : ℤ) (r : Interval) → r ≡ (min4 k l m n ⋯ max4 k l m n) → k ≡ a → l ≡ b → m ≡ c → n ≡ d → r ≡ (min4 a b c d ⋯ max4 a b c d)
 spread-called a k b l c m d n r h p q s t = rw (p, q, s, t) at h
 
@@ -89,12 +83,6 @@ eq-asked x y = one_answer _ _ (Decides-int_eq x y) (yes (eq_test x y), λ e. rw 
 
 pub same-told : (a b : Interval) (r t : Bool) → r ≡ (int_eq a.min b.min && int_eq a.max b.max) → r ≡ t → same_ends a b ≡ t
 same-told a b r t h e = rw (eq-asked a.min b.min, eq-asked a.max b.max) at (sym h ∙ e)
-
-pub only-flag : (a : Interval) (m n : ℤ) (r t : Bool) → r ≡ is_only a m → m ≡ n → r ≡ t → is_only a n ≡ t
-only-flag a m n r t h p q = rw p at (sym h ∙ q)
-
-pub only-called : (a : Interval) (m n : ℤ) (r : Bool) → r ≡ is_only a m → m ≡ n → r ≡ is_only a n
-only-called a m n r h p = rw p at h
 
 pub sub_is : (a b c : Interval) (n : Result Interval Refusal) (r : Interval) → told n ≡ neg b → n ≡ Ok c → r ≡ add a c → is r ≡ sub a b
 unfolding sub

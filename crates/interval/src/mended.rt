@@ -90,6 +90,7 @@ fn unmade(size: Size, a: Interval, b: Interval) -> Result<Interval, Refusal>
 }
 
 // The answer to an arithmetic operation: `made`, if both are canonical and neither is bottom. The rare answers stand apart, so that this is short.
+// `made` is no closure: the clause is over `told made`.
 fn strict(
     size: Size,
     a: Interval,

@@ -294,6 +294,7 @@ pub fn add(a: Interval, b: Interval) -> Interval
     }
 }
 
+// Not one with neg_min: MAX becomes MIN here, and -MAX there.
 fn neg_max(x: i64) -> i64
     requires { (x ≟ least w64) ≡ false }
     ensures { result ≡ pick (x ≟ greatest w64) (least w64) (neg_ℤ x) }

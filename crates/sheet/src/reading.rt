@@ -1,4 +1,4 @@
-// Fields, steps and whole sheets out of bytes.
+// Fields, steps and whole sheets out of bytes. The bytes and the place are two arguments, as `field_at` and `step_at` of specs/ have them.
 ghost use Rattle.std.specs.Prelude.{◌≡◌, ◌<◌, ◌≤◌, ◌*◌, pos, length};
 ghost use Rattle.std.proofs.lemmas.List.Edits.{sets};
 ghost use Rattle.sheet.specs.declared.operator.Kind.TheVariants.{Signed, High, Earlier};

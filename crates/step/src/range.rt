@@ -53,7 +53,8 @@ pub(crate) fn settled<T: Copy>(i: Interval, t: T, u: T) -> Option<T>
     }
 }
 
-// The range that the operator shows on operands of these ranges.
+// The range that the operator shows on operands of these ranges. Three arguments, here and in run, spacing and sign: a clause over an
+// array of them would index it, which is no plainer.
 pub fn range(
     size: Size,
     operator: Operator,

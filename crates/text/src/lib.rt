@@ -1,4 +1,5 @@
 // Text for programs: numbers in decimal, the ends of a range, words, and bytes in hexadecimal.
+// A buffer and a place in it are two arguments, as the promises have them (`put_answer out at`, `number_at s at`).
 #![tactic(auto)]
 
 ghost use Rattle.std.specs.Prelude.{◌≡◌, ◌+◌, ◌≤◌, length, drop, SomeIff};
