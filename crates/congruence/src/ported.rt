@@ -112,6 +112,7 @@ fn ordered(a: Congruence, b: Congruence) -> Option<Ordering>
     }
 }
 
+// No impl of PartialOrd: it refuses by 1, which no order says.
 pub fn partial_cmp(a: Congruence, b: Congruence) -> Result<Option<Ordering>, Refusal>
     ensures { told result ≡ spec.partial_cmp a b }
 {

@@ -158,7 +158,7 @@ pub fn check_at(size: Size, bytes: &[u8], room: &mut [i64]) -> Result<usize, Fau
     check_listed(size, &steps[..n * 4], n, room)
 }
 
-// Checks a sheet at 64 bits.
+// Checks a sheet at 64 bits, for those that C calls.
 pub fn check(bytes: &[u8], room: &mut [i64]) -> Result<usize, Fault>
     ensures { Checked bytes.now room.old room.new result }
 {

@@ -204,7 +204,7 @@ fn around(a: Interval, b: Interval) -> bool
     a.min <= b.min && a.max >= b.max
 }
 
-// The order: inclusion.
+// The order: inclusion. An impl of PartialOrd would only call it.
 pub fn partial_cmp(a: Interval, b: Interval) -> Option<Ordering>
     ensures { result ≡ ported.partial_cmp a b }
 {

@@ -163,7 +163,7 @@ pub fn run_at(size: Size, bytes: &[u8], inputs: &[i64], room: &mut [i64]) -> Res
     run_listed(size, &steps[..n * 4], n, inputs, room)
 }
 
-// Runs a sheet at 64 bits.
+// Runs a sheet at 64 bits, for those that C calls.
 pub fn run(bytes: &[u8], inputs: &[i64], room: &mut [i64]) -> Result<usize, Fault>
     ensures { Ran bytes.now inputs.now room.old room.new result }
 {

@@ -22,6 +22,7 @@ pub enum Answer {
     Number(Option<i64>),
 }
 
+// Why a question has no answer.
 #[derive(Clone, Copy)]
 pub enum NotAnswered {
     Refused(Refusal),

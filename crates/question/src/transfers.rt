@@ -6,6 +6,7 @@ use crate::intervals::of_ends;
 use crate::names::{Name, name_at};
 use crate::take::{number, operands};
 
+// An operator is a number here, as crate `transfer` takes it.
 fn of_intervals(shape: Name, op: i64, numbers: &[i64]) -> Result<Answer, NotAnswered> {
     match (shape, numbers) {
         (Name::Unary, [a, b]) => Ok(range(transfer::interval_unary(op, of_ends(*a, *b))?)),

@@ -63,6 +63,7 @@ impl Page<'_> {
         self.made = text::word::put_word(self.bytes, self.made, w).unwrap_or(self.made);
     }
 
+    // Not one with natural: text puts a sign and digits in the one, digits alone in the other.
     pub fn number(&mut self, n: i64)
         ensures { Puts (decimal n ∷ []) self.old self.new }
     {

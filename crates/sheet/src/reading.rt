@@ -56,7 +56,7 @@ fn read_field(s: &[u8], at: usize, kind: Kind, k: usize, low: i64) -> Result<(i6
     }
 }
 
-// Step k, of whose operator the fields are read, and the place after it.
+// Step k, of whose operator, by the number that was read, the fields are read, and the place after it.
 fn read_fields(s: &[u8], p: usize, op: u64, f: Fields, k: usize) -> Result<(Step, usize), BadByte>
     requires { (k ≤ 256) × (op < 17) }
     ensures { step_found result ≡ fields_at f s.now op p k }

@@ -4,6 +4,7 @@ ghost use Rattle.sign.specs.Bits.{bits_of, of_bits};
 
 use crate::Sign;
 
+// By a match: the bits aren't the variants' numbers, which are the Rust's order.
 pub(crate) fn bits_of(s: Sign) -> u8
     ensures { result ≡ bits_of s }
 {

@@ -19,6 +19,7 @@ use Rattle.congruence.specs.Set.{Proper as ProperSpacing}
 use Rattle.congruence.proofs.Sets as sets
 use Rattle.step.specs.declared.Operator.{Operator}
 use Rattle.step.specs.declared.show.Shown.{Shown}
+use Rattle.step.specs.Range.{range_op}
 use Rattle.step.specs.Run.{run_op}
 use Rattle.step.specs.Spacing.{spacing_op}
 use Rattle.step.specs.Signs.{sign_op}
@@ -101,26 +102,10 @@ lawful w = record {
   honest = λ o s t u f ps pt pu. honest w o s t u f ps pt pu;
 }
 
--- ---- what is told is one answer's
+-- ---- what a call promises leaves one answer
 
-abbrev range_of_told : Result Interval Refusal → Result Interval Refusal
-range_of_told (Ok v) = Ok v
-range_of_told (Err r) = Err r
+pub range-fixed : (w : Width) (o : Operator) (i j k : Interval) (r r' : Result Interval Refusal) → r ≡ range_op w o i j k → r' ≡ range_op w o i j k → r ≡ r'
+range-fixed w o i j k r r' h l = h ∙ sym l
 
-abbrev shown_back : Result Shown Refusal → Result Shown Refusal
-shown_back (Ok v) = Ok v
-shown_back (Err r) = Err r
-
-range_back : (r : Result Interval Refusal) → range_of_told r ≡ r
-range_back (Ok v) = refl
-range_back (Err r) = refl
-
-shown-back : (r : Result Shown Refusal) → shown_back r ≡ r
-shown-back (Ok v) = refl
-shown-back (Err r) = refl
-
-pub range-fixed : (r r' : Result Interval Refusal) → r ≡ r' → r ≡ r'
-range-fixed r r' h = sym (range_back r) ∙ ap range_of_told h ∙ range_back r'
-
-pub shown-fixed : (r r' : Result Shown Refusal) → r ≡ r' → r ≡ r'
-shown-fixed r r' h = sym (shown-back r) ∙ ap shown_back h ∙ shown-back r'
+pub shown-fixed : (w : Width) (o : Operator) (s t u : Shown) (r r' : Result Shown Refusal) → r ≡ show_op w o s t u → r' ≡ show_op w o s t u → r ≡ r'
+shown-fixed w o s t u r r' h l = h ∙ sym l

@@ -59,9 +59,9 @@ returns-then-shift-gt0 c =
     let a = w.args in
     sym (x.invariant.3 ∙ code-one-too-many a.s.now a.at x.i x.shift x.value w.wide-b.result (byte w) (byte_fits w) w.if-shift-gt63.false w.if-s-i.false c.if-b-eq0.true c.if-shift-gt0.true)
 
-pub returns-then-b-lt128 : goal.returns-then-b-lt128
-returns-then-b-lt128 c =
-    let w = (goal.at.returns-then-b-lt128 c).After-wide-b in
+pub returns-else-b-eq0 : goal.returns-else-b-eq0
+returns-else-b-eq0 c =
+    let w = (goal.at.returns-else-b-eq0 c).After-wide-b in
     let x = w.loop-shift in
     let a = w.args in
     -- a group of 0 is the only one
