@@ -6,7 +6,7 @@ ghost use Rattle.say.specs.Said.{Puts};
 ghost use Rattle.ask.specs.Sheets.{refused_text, read_said, write_said, run_said, check_said};
 
 use question::names::{Name, named};
-use question::take::{name, number, operands};
+use question::take::{name, numbers};
 use refusal::Fault;
 use say::Page;
 
@@ -52,7 +52,7 @@ fn write_numbers(steps: &[i64], page: &mut Page)
 // A line has room for no more numbers than that.
 fn write(line: &[u8], at: usize, page: &mut Page) {
     let mut room = [0i64; 16384];
-    match operands(line, at, &mut room, number) {
+    match numbers(line, at, &mut room) {
         Some(n) => write_numbers(&room[..n], page),
         None => page.not_understood(),
     }
@@ -110,7 +110,7 @@ fn of_bytes(op: Name, bytes: &[u8], inputs: &[i64], page: &mut Page) {
 // The numbers after the bytes.
 fn with_numbers(op: Name, bytes: &[u8], line: &[u8], at: usize, page: &mut Page) {
     let mut room = [0i64; 16384];
-    match operands(line, at, &mut room, number) {
+    match numbers(line, at, &mut room) {
         Some(n) => of_bytes(op, bytes, &room[..n], page),
         None => page.not_understood(),
     }

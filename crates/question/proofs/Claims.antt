@@ -84,3 +84,12 @@ module _ (w : List ℕ) (l : Letters w) where
   pub name-by-codes : name_of w ≡ name_by_codes (first_code w) (second_code w)
   unfolding well_in named_well all_letters name_of name_by_codes first_code code_of coded
   name-by-codes = in-rows rows refl
+
+  -- the operations of `number`, which are no rows
+  pub gcd-by-codes : is "gcd" w ≡ codes "gcd" (first_code w) (second_code w)
+  unfolding named_well all_letters first_code code_of coded
+  gcd-by-codes = is-by-codes "gcd" refl
+
+  pub lcm-by-codes : is "lcm" w ≡ codes "lcm" (first_code w) (second_code w)
+  unfolding named_well all_letters first_code code_of coded
+  lcm-by-codes = is-by-codes "lcm" refl

@@ -2,7 +2,7 @@
 use crate::answer::Answer;
 use crate::answer::NotAnswered::{self, NotUnderstood};
 use crate::names::{Name, name_at};
-use crate::take::{number, operands};
+use crate::take::numbers;
 use congruence::{Congruence, mended, ported};
 use whole::Size;
 
@@ -54,7 +54,7 @@ fn of_two(op: Name, x: Congruence, y: Congruence) -> Result<Answer, NotAnswered>
 pub(crate) fn answer(line: &[u8], at: usize) -> Result<Answer, NotAnswered> {
     let (op, next) = name_at(line, at).ok_or(NotUnderstood)?;
     let mut room = [0; 4];
-    let n = operands(line, next, &mut room, number).ok_or(NotUnderstood)?;
+    let n = numbers(line, next, &mut room).ok_or(NotUnderstood)?;
     match &room[..n] {
         [] => of_none(op),
         [c, m] => of_one(op, of_numbers(*c, *m)),
@@ -94,7 +94,7 @@ fn mended_two(size: Size, op: Name, x: Congruence, y: Congruence) -> Result<Answ
 pub(crate) fn mended_answer(line: &[u8], at: usize, size: Size) -> Result<Answer, NotAnswered> {
     let (op, next) = name_at(line, at).ok_or(NotUnderstood)?;
     let mut room = [0; 4];
-    let n = operands(line, next, &mut room, number).ok_or(NotUnderstood)?;
+    let n = numbers(line, next, &mut room).ok_or(NotUnderstood)?;
     match &room[..n] {
         [c, m] => mended_one(size, op, of_numbers(*c, *m)),
         [c, m, d, n] => mended_two(size, op, of_numbers(*c, *m), of_numbers(*d, *n)),

@@ -2,7 +2,7 @@
 use crate::answer::NotAnswered::{self, NotUnderstood};
 use crate::answer::{Answer, range};
 use crate::names::{Name, name_at};
-use crate::take::{number, operands};
+use crate::take::{numbers, operands};
 use interval::{Interval, mended, ported};
 use whole::Size;
 
@@ -62,7 +62,7 @@ fn of_two(op: Name, i: Interval, j: Interval) -> Result<Answer, NotAnswered> {
 
 fn of_numbers(op: Name, line: &[u8], at: usize) -> Result<Answer, NotAnswered> {
     let mut room = [0; 4];
-    let n = operands(line, at, &mut room, number).ok_or(NotUnderstood)?;
+    let n = numbers(line, at, &mut room).ok_or(NotUnderstood)?;
     match &room[..n] {
         [] => of_none(op),
         [n] => of_number(op, *n),
@@ -118,7 +118,7 @@ fn mended_two(size: Size, op: Name, i: Interval, j: Interval) -> Result<Answer, 
 pub(crate) fn mended_answer(line: &[u8], at: usize, size: Size) -> Result<Answer, NotAnswered> {
     let (op, next) = name_at(line, at).ok_or(NotUnderstood)?;
     let mut room = [0; 4];
-    let n = operands(line, next, &mut room, number).ok_or(NotUnderstood)?;
+    let n = numbers(line, next, &mut room).ok_or(NotUnderstood)?;
     match &room[..n] {
         [a, b] => mended_one(size, op, of_ends(*a, *b)),
         [a, b, c, d] => mended_two(size, op, of_ends(*a, *b), of_ends(*c, *d)),

@@ -34,7 +34,7 @@ pub(crate) fn two(line: &[u8], at: usize) -> Option<(i64, i64)>
 }
 
 // Operands to the end of the line, stored in the lent room: how many they are, if it has places for all.
-pub fn operands<T: Drop, F: Fn(&[u8], usize) -> Option<(T, usize)>>(
+pub(crate) fn operands<T: Drop, F: Fn(&[u8], usize) -> Option<(T, usize)>>(
     line: &[u8],
     at: usize,
     room: &mut [T],
@@ -57,6 +57,13 @@ pub fn operands<T: Drop, F: Fn(&[u8], usize) -> Option<(T, usize)>>(
     } else {
         None
     }
+}
+
+// Numbers to the end of the line, stored in the lent room: how many they are, if it has places for all.
+pub fn numbers(line: &[u8], at: usize, room: &mut [i64]) -> Option<usize>
+    ensures { IfSome result (λ n. n ≤ length room.old) }
+{
+    operands(line, at, room, number)
 }
 
 // A word after a space, which is empty if there is none, and the place after it.

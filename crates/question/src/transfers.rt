@@ -4,7 +4,7 @@ use crate::answer::{Answer, range};
 use crate::congruences::of_numbers;
 use crate::intervals::of_ends;
 use crate::names::{Name, name_at};
-use crate::take::{number, operands};
+use crate::take::{number, numbers};
 
 // An operator is a number here, as crate `transfer` takes it.
 fn of_intervals(shape: Name, op: i64, numbers: &[i64]) -> Result<Answer, NotAnswered> {
@@ -38,7 +38,7 @@ pub(crate) fn answer(line: &[u8], at: usize) -> Result<Answer, NotAnswered> {
     let (shape, q) = name_at(line, p).ok_or(NotUnderstood)?;
     let (op, next) = number(line, q).ok_or(NotUnderstood)?;
     let mut room = [0; 4];
-    let n = operands(line, next, &mut room, number).ok_or(NotUnderstood)?;
+    let n = numbers(line, next, &mut room).ok_or(NotUnderstood)?;
     match domain {
         Name::Congruence => of_congruences(shape, op, &room[..n]),
         Name::Interval => of_intervals(shape, op, &room[..n]),
