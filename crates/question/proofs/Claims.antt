@@ -1,17 +1,18 @@
 -- The name that a word is, is the name that its two numbers stand for.
-use Rattle.std.proofs.Common.{◌≡◌, refl, sym, ap, arith, ℕ, zero, suc, List, [], ◌∷◌, Bool, true, false}
+use Rattle.std.proofs.Common.{◌≡◌, ◌<◌, ◌+◌, refl, sym, ap, arith, ℕ, zero, suc, List, [], ◌∷◌, Bool, true, false}
 use Prim.Native.String.{String}
 use mathlib.Core.Bool.{◌&&◌}
 use lib.Dec.{eqb, leb, ltb}
-use lib.ListN.{length}
+use lib.ListN.{length, get_or}
 use borrow.Author.Tests.{eq-eqb, eqb-true, leb-true, leb-false, ltb-true}
 use Rattle.std.specs.Bool.{Decides}
 use Rattle.std.proofs.lemmas.Slice.Eq.{bytes_eq-Decides}
+use Rattle.whole.specs.Choice.{pick}
 use Rattle.text.specs.Ascii.{ascii}
-use Rattle.text.specs.Word.{Letters, coded, code_of, first_code, second_code}
+use Rattle.text.specs.Word.{Letters, coded, code_of, word_of, first_code, second_code}
 use Rattle.text.proofs.Words.{first-long}
-use Rattle.text.proofs.Claims.{word-one}
-use Rattle.question.specs.Taken.{is}
+use Rattle.text.proofs.Claims.{word-one, word-letters}
+use Rattle.question.specs.Taken.{is, name_after}
 use Rattle.question.specs.Names.{Row, rows, name_in, name_of}
 use Rattle.question.specs.Codes.{codes, coded_in, name_by_codes}
 
@@ -93,3 +94,18 @@ module _ (w : List ℕ) (l : Letters w) where
   pub lcm-by-codes : is "lcm" w ≡ codes "lcm" (first_code w) (second_code w)
   unfolding named_well all_letters first_code code_of coded
   lcm-by-codes = is-by-codes "lcm" refl
+
+-- ---- of the words that are taken from a line of bytes
+
+module _ (s : List ℕ) (b : (i : ℕ) → i < length s → get_or s i 0 < 256) where
+  pub named-by-codes : (at : ℕ) → name_of (word_of s at) ≡ name_by_codes (first_code (word_of s at)) (second_code (word_of s at))
+  named-by-codes at = name-by-codes (word_of s at) (word-letters s at b)
+
+  -- a name after a space has letters alone, and so has the empty one
+  pub name-letters : (at : ℕ) → Letters (name_after s at)
+  unfolding name_after
+  name-letters at = by-test (eqb (get_or s at 0) 32)
+    where
+      by-test : (t : Bool) → Letters (pick t (word_of s (at + 1)) [])
+      by-test true = word-letters s (at + 1) b
+      by-test false = λ i h. absurd (omega arith)

@@ -1,2 +1,3 @@
 pub mod Looking
 pub mod Claims
+pub mod Taking

@@ -1,6 +1,7 @@
 // Operands of a question: each stands after one space. A line and a place in it are two arguments, as in specs/Taken.
-ghost use Rattle.std.specs.Prelude.{◌≡◌, ◌≤◌, length, IfSome};
-ghost use Rattle.question.specs.Taken.{number_after, one_after, two_after, name_after, next_after};
+ghost use Rattle.std.specs.Prelude.{◌≡◌, ◌≤◌, ℕ, List, Option, length, IfSome};
+ghost use Rattle.std.proofs.lemmas.List.Edits.{sets};
+ghost use Rattle.question.specs.Taken.{number_after, one_after, two_after, numbers_after, count_after, name_after, next_after, AnsweredBy, TakenBy};
 
 // A number, and the place after it.
 pub fn number(line: &[u8], at: usize) -> Option<(i64, usize)>
@@ -41,7 +42,8 @@ pub(crate) fn operands<T: Drop, F: Fn(&[u8], usize) -> Option<(T, usize)>>(
     take: F,
 ) -> Option<usize>
     requires { F.IsAlwaysCallable take }
-    ensures { IfSome result (λ n. n ≤ length room.old) }
+    ensures told { (f : List ℕ → ℕ → Option (T × ℕ)) → AnsweredBy (F.post take) f → TakenBy (f line.now) (length line.now) at room.old result room.new }
+    ensures fits { IfSome result (λ n. n ≤ length room.old) }
 {
     let mut at = at;
     for (n, place) in room.iter_mut().enumerate() {
@@ -59,9 +61,10 @@ pub(crate) fn operands<T: Drop, F: Fn(&[u8], usize) -> Option<(T, usize)>>(
     }
 }
 
-// Numbers to the end of the line, stored in the lent room: how many they are, if it has places for all.
+// Numbers, stored in the lent room up to what is no number or the room's end: how many they are, if the line ends there.
 pub fn numbers(line: &[u8], at: usize, room: &mut [i64]) -> Option<usize>
-    ensures { IfSome result (λ n. n ≤ length room.old) }
+    ensures told { (result ≡ count_after line.now at (length room.old)) × (room.new ≡ sets room.old 0 (numbers_after line.now at (length room.old))) }
+    ensures fits { IfSome result (λ n. n ≤ length room.old) }
 {
     operands(line, at, room, number)
 }

@@ -55,9 +55,15 @@ fn run_on(rt: &(impl Env + Print), bytes: &[u8], words: Range<usize>) {
     print_run(rt, bytes, &inputs[..n]);
 }
 
-// Runs the files that the arguments name, each on the numbers after its name.
-fn run_files(rt: &(impl Env + Files + Print), count: usize, headed: bool, buf: &mut [u8]) {
-    for i in 1..count {
+// Runs the files that the arguments name, each on the numbers after its name; no argument before the first is a name.
+fn run_files(
+    rt: &(impl Env + Files + Print),
+    first: usize,
+    count: usize,
+    headed: bool,
+    buf: &mut [u8],
+) {
+    for i in first..count {
         if !is_name(rt, i) {
             continue;
         }
@@ -68,12 +74,14 @@ fn run_files(rt: &(impl Env + Files + Print), count: usize, headed: bool, buf: &
 }
 
 // Reading a sheet looks at no byte past place 5,378, so the answer to so many bytes is the answer to them all.
+// The arguments are looked at up to the second name, which tells whether there are several.
 fn main(rt: HostRuntime) {
     let mut buf = [0u8; 5379];
     let count = files::argument_count(&rt);
-    let names = (1..count).filter(|i| is_name(&rt, *i)).count();
-    if 0 < names {
-        run_files(&rt, count, 1 < names, &mut buf);
+    let mut names = (1..count).filter(|i| is_name(&rt, *i));
+    if let Some(first) = names.next() {
+        let headed = names.next().is_some();
+        run_files(&rt, first, count, headed, &mut buf);
     } else if let Some(n) = files::standard_input(&rt, &mut buf) {
         run_on(&rt, &buf[..n], 1..count);
     }

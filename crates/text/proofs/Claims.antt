@@ -5,12 +5,13 @@ use mathlib.Core.List.{List, ◌++◌, append_assoc, append-nil}
 use mathlib.Core.Bool.{true}
 use native.Mathlib.Omega.{arith}
 use lib.IntN.{ℤ}
-use lib.ListN.{length, get_or, take, drop}
+use lib.ListN.{length, get_or, take, drop, length-drop}
 use lib.Seq.{drop-append_seam, drop_at, take_at, length-take-le, sets, sets-eq}
 use mir.Syntax.{Width, w64}
 use mir.Val.{SFits}
 use borrow.Author.Tests.{le-leb}
 use Rattle.std.specs.Prelude.{Some}
+use Rattle.std.proofs.lemmas.List.{get_or-drop}
 use Rattle.std.proofs.lemmas.Option.{some_pair_parts}
 use Rattle.text.specs.Room.{put_bytes}
 use Rattle.text.specs.Decimal.{decimal}
@@ -21,7 +22,7 @@ use Rattle.text.specs.Word.{Letters, NoLetter, begins, word_of, first_code, seco
 use Rattle.text.proofs.Back.{there, alone}
 use Rattle.text.proofs.Ends.{end_of, same_end}
 use Rattle.text.proofs.Pairs.{bytes-of-text, none_here}
-use Rattle.text.proofs.Words.{letters-of-word, begins-word, word-begins}
+use Rattle.text.proofs.Words.{letters-alone, letters-of-word, begins-word, word-begins}
 use Rattle.text.proofs.Codes.{bytes_of, same_word}
 
 -- ---- decimal
@@ -65,6 +66,11 @@ pub word_back : (before after w : List ℕ) → Letters w → NoLetter after →
 unfolding word_of
 word_back before after w l end =
     rw (drop-append_seam before (w ++ after), letters-of-word w after l end) (take_at w after (length w) refl)
+
+-- the word at a place of bytes has letters alone
+pub word-letters : (s : List ℕ) (at : ℕ) → ((i : ℕ) → i < length s → get_or s i 0 < 256) → Letters (word_of s at)
+unfolding word_of
+word-letters s at b = letters-alone (drop at s) (λ i h. let e : get_or (drop at s) i 0 ≡ get_or s (at + i) 0 = get_or-drop at s i 0 in rw e (b (at + i) (omega (arith, length-drop at s))))
 
 -- a word of at most sixteen bytes is known by its two numbers
 pub word-one : (w u : List ℕ) → Letters w → Letters u → length w ≤ 16 → length u ≤ 16 → first_code w ≡ first_code u → second_code w ≡ second_code u → w ≡ u

@@ -1,5 +1,5 @@
 -- What a turn does to what is left of a word, and the codes of a word by its length.
-use Prim.Native.Nat.{ℕ, suc, ◌+◌, ◌*◌, ◌^◌, ◌≤◌, ◌<◌}
+use Prim.Native.Nat.{ℕ, zero, suc, ◌+◌, ◌*◌, ◌^◌, ◌≤◌, ◌<◌}
 use mathlib.Core.Path.{◌≡◌, refl, sym, ap, subst, ◌∙◌}
 use mathlib.Core.List.{List, [], ◌∷◌, ◌++◌}
 use mathlib.Core.Bool.{Bool, true, false, ◌&&◌}
@@ -10,7 +10,7 @@ use lib.Pow.{pow-add, pow_mono}
 use lib.Dec.{ltb, eqb}
 use lib.ListN.{length, get_or, drop, take, length-drop, drop_of_length-le}
 use lib.Seq.{drop-cons, take_all}
-use borrow.Author.Tests.{lt-ltb, le-ltb, eq-eqb, ne_eqb, eqb-true, eqb-false}
+use borrow.Author.Tests.{lt-ltb, le-ltb, ltb-false, eq-eqb, ne_eqb, eqb-true, eqb-false}
 use Rattle.std.specs.List.{starts_with}
 use Rattle.whole.specs.Choice.{pick}
 use Rattle.text.specs.Word.{Letters, NoLetter, begins, letters, coded, code_of, word_of, first_code, second_code}
@@ -53,6 +53,17 @@ letters_more x xs h = rw (le-ltb x 33 h, add-one (letters xs))
 pub letters_none : letters [] ≡ 0
 unfolding letters
 letters_none = refl
+
+-- the bytes before the first space or control are letters
+pub letters-alone : (xs : List ℕ) → ((i : ℕ) → i < length xs → get_or xs i 0 < 256) → Letters (take (letters xs) xs)
+unfolding letters
+letters-alone [] b = λ i h. absurd (omega arith)
+letters-alone (x ∷ xs) b = by-test (ltb x 33) refl (letters-alone xs (λ i h. b (suc i) (omega arith)))
+  where
+    by-test : (t : Bool) → ltb x 33 ≡ t → Letters (take (letters xs) xs) → Letters (take (pick t 0 (suc (letters xs))) (x ∷ xs))
+    by-test true e l i h = absurd (omega arith)
+    by-test false e l zero h = (omega (arith, ltb-false x 33 e), b 0 (omega arith))
+    by-test false e l (suc i) h = l i (omega arith)
 
 pub coded-more : (w : List ℕ) (i v : ℕ) → i < length w → coded (drop i w) v ≡ coded (drop (i + 1) w) (v * 256 + get_or w i 0)
 unfolding coded
