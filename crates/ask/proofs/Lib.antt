@@ -2,3 +2,4 @@ pub mod Running
 pub mod Checking
 pub mod Sheeting
 pub mod Storing
+pub mod Ending

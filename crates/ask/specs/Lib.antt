@@ -1,3 +1,4 @@
 pub mod Sheets
 pub mod Answer
 pub mod Waiting
+pub mod Unfinished

@@ -6,8 +6,10 @@ mod line;
 mod sheets;
 mod take;
 
-ghost use Rattle.std.specs.Prelude.{◌≤◌, length};
-ghost use Rattle.ask.specs.Waiting.{waiting};
+ghost use Rattle.std.specs.Prelude.{◌≡◌, ◌≤◌, ℕ, List, length, take};
+ghost use Rattle.std.specs.Io.KnownBytes.{Consumes};
+ghost use Rattle.ask.specs.Unfinished.{unfinished};
+ghost use Rattle.ask.specs.Waiting.{ReadOn, Skipped, waiting};
 
 use std::io::Read;
 
@@ -26,21 +28,17 @@ enum State {
 }
 
 // Reads once, and answers how many bytes came: a read that fails ends the input.
-fn read(input: &mut impl Read, room: &mut [u8]) -> usize
-    ensures { result ≤ length room.new }
+fn read<R: Read>(input: &mut R, room: &mut [u8]) -> usize
+    ensures fits { result ≤ length room.new }
+    ensures came { Consumes (R.remaining input.old) (R.remaining input.new) (take result room.new) }
 {
     input.read(room).unwrap_or(0)
 }
 
-// Answers the lines that end in the text, moves what is left to its start, and answers how many bytes that is.
-fn answer_lines(rt: &impl Print, text: &mut [u8], out: &mut [u8]) -> usize
-    ensures { result ≤ length text.new }
-{
-    let Some(last) = text.iter().rposition(|byte| *byte == b'\n') else {
-        return text.len();
-    };
+// Answers the lines of a text that ends where its last line does, before the line end.
+fn answer_each(rt: &impl Print, lines: &[u8], out: &mut [u8]) {
     let mut made = 0;
-    for line in text[..last].split(|byte| *byte == b'\n') {
+    for line in lines.split(|byte| *byte == b'\n') {
         if ANSWER < made {
             files::print(rt, out, made);
             made = 0;
@@ -48,6 +46,18 @@ fn answer_lines(rt: &impl Print, text: &mut [u8], out: &mut [u8]) -> usize
         made = line::answer(line, out, made);
     }
     files::print(rt, out, made);
+}
+
+// Answers the lines that end in the text, moves what is left to its start, and answers how many bytes that is.
+fn answer_lines(rt: &impl Print, text: &mut [u8], out: &mut [u8]) -> usize
+    ensures fits { result ≤ length text.new }
+    ensures count { result ≡ length (unfinished text.old) }
+    ensures left { take result text.new ≡ unfinished text.old }
+{
+    let Some(last) = text.iter().rposition(|byte| *byte == b'\n') else {
+        return text.len();
+    };
+    answer_each(rt, &text[..last], out);
     text.copy_within(last + 1.., 0);
     text.len() - last - 1
 }
@@ -61,15 +71,17 @@ fn answer_rest(rt: &impl Print, text: &[u8], out: &mut [u8]) {
 }
 
 // Reads on after the `have` bytes that wait, and answers what it can: a line that fills the buffer is too long.
-fn read_on(
+fn read_on<R: Read>(
     rt: &impl Print,
-    input: &mut impl Read,
+    input: &mut R,
     buf: &mut [u8],
     out: &mut [u8],
     have: usize,
 ) -> State
     requires { have ≤ length buf.old }
-    ensures { waiting result ≤ length buf.new }
+    ensures fits { waiting result ≤ length buf.new }
+    ensures left { (more : List ℕ) × Consumes (R.remaining input.old) (R.remaining input.new) more
+        × ReadOn result (take have buf.old) more buf.new }
 {
     let more = read(input, &mut buf[have..]);
     if more == 0 {
@@ -86,19 +98,20 @@ fn read_on(
 }
 
 // Reads on in a line that is too long, and answers what stands after its end.
-fn skip(rt: &impl Print, input: &mut impl Read, buf: &mut [u8], out: &mut [u8]) -> State
-    ensures { waiting result ≤ length buf.new }
+fn skip<R: Read>(rt: &impl Print, input: &mut R, buf: &mut [u8], out: &mut [u8]) -> State
+    ensures fits { waiting result ≤ length buf.new }
+    ensures left { (more : List ℕ) × Consumes (R.remaining input.old) (R.remaining input.new) more
+        × Skipped result more buf.new }
 {
     let n = read(input, buf);
     if n == 0 {
         return State::Ended;
     }
-    let text = &mut buf[..n];
-    let Some(end) = text.iter().position(|byte| *byte == b'\n') else {
+    let Some(end) = buf[..n].iter().position(|byte| *byte == b'\n') else {
         return State::Skipping;
     };
-    text.copy_within(end + 1.., 0);
-    State::Waiting(answer_lines(rt, &mut text[..n - end - 1], out))
+    buf.copy_within(end + 1..n, 0);
+    State::Waiting(answer_lines(rt, &mut buf[..n - end - 1], out))
 }
 
 // A proved loop has to end, and nothing says that the input does: so it counts its turns, to a number that no run uses up.
