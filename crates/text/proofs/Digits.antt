@@ -71,6 +71,10 @@ sets-snoc (x ∷ xs) l at d =
 pub a-digit : (n : ℕ) → 0 < length (digits n)
 a-digit n = ⊎_elim (λ s. omega (arith, one-digit n s)) (λ l. omega (arith, longer n l)) (lt-or-le n 10)
 
+-- a number of one digit is that digit
+pub of-one : (n : ℕ) → length (digits n) ≡ 1 → n < 10
+of-one n e = ⊎_elim (λ s. s) (λ l. absurd (omega (arith, longer n l, a-digit (n / 10)))) (lt-or-le n 10)
+
 -- digits that are stored the last first: those of m are left, before the place i, and t is what is to come of it
 abbrev pub Storing : (t out : List ℕ) (at i m : ℕ) → Type 0
 Storing t out at i m = (at < i → (i ≡ at + length (digits m)) × (t ≡ sets out at (digits m))) × (i ≡ at → t ≡ out)
@@ -92,6 +96,14 @@ module _ (t out : List ℕ) (at i m : ℕ) (le : at ≤ i) (s : Storing t out at
 
   pub store-more : Storing t (set out i (48 + m % 10)) at i (m / 10)
   store-more = ⊎_elim store-last store-before (lt-or-le m 10)
+
+-- one place is left: its digit is the number that is left
+module _ (t out : List ℕ) (at i m : ℕ) (here : i ≡ at + 1) (s : Storing t out at i m) where
+  pub one-left : m < 10
+  one-left = let p = s.0 (omega arith) in of-one m (omega (arith, p.0))
+
+  pub store-first : set out at (48 + m) ≡ t
+  store-first = let p = s.0 (omega arith) in sym (p.1 ∙ ap (sets out at) (digits_last m one-left))
 
 a-power : (k : ℕ) → 0 < 10 ^ k
 a-power zero = omega arith

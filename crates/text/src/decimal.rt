@@ -9,6 +9,16 @@ ghost use Rattle.text.specs.Room.{put_answer, put_bytes};
 fn width(n: u64) -> usize
     ensures { result ≡ length (digits n) }
 {
+    // Most numbers that are written are short, which asks for no logarithm.
+    if n < 10 {
+        return 1;
+    }
+    if n < 100 {
+        return 2;
+    }
+    if n < 1000 {
+        return 3;
+    }
     match n.checked_ilog10() {
         Some(k) => k as usize + 1,
         None => 1,
@@ -21,10 +31,11 @@ fn fill_digits(out: &mut [u8], at: usize, k: usize, n: u64)
     ensures { out.new ≡ sets out.old at (digits n) }
 {
     let mut m = n;
-    for i in (at..at + k).rev() {
+    for i in (at + 1..at + k).rev() {
         out[i] = b'0' + (m % 10) as u8;
         m = m / 10;
     }
+    out[at] = b'0' + m as u8;
 }
 
 // Writes a number from 0 up. Where it doesn't fit the buffer is kept.
