@@ -4,6 +4,7 @@ ghost use Rattle.std.proofs.lemmas.List.Edits.{sets};
 ghost use Rattle.question.specs.Taken.{number_after, one_after, two_after, numbers_after, count_after, name_after, next_after, AnsweredBy, TakenBy};
 
 // A number, and the place after it.
+#[inline]
 pub fn number(line: &[u8], at: usize) -> Option<(i64, usize)>
     ensures { result ≡ number_after line.now at }
 {

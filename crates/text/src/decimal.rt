@@ -93,7 +93,11 @@ fn get_digits(s: &[u8], at: usize) -> Option<(u64, usize)>
         let Some(d) = (*b as char).to_digit(10) else {
             return found(at, n, v);
         };
-        v = v.checked_mul(10)?.checked_add(d as u64)?;
+        // One test for the product and the sum: with a digit more they would be above 2^63.
+        if 922337203685477580 < v {
+            return None;
+        }
+        v = v * 10 + d as u64;
     }
     found(at, rest.len(), v)
 }
@@ -114,6 +118,7 @@ fn get_plus(s: &[u8], at: usize) -> Option<(i64, usize)>
 }
 
 // Reads a number: digits, or `-` and digits. It answers the number and the place after it, if there is one that is an i64.
+#[inline]
 pub fn get_number(s: &[u8], at: usize) -> Option<(i64, usize)>
     ensures { result ≡ number_at s.now at }
 {
