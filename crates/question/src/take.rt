@@ -3,7 +3,7 @@ ghost use Rattle.std.specs.Prelude.{◌≡◌, ◌≤◌, ℕ, List, Option, len
 ghost use Rattle.std.proofs.lemmas.List.Edits.{sets};
 ghost use Rattle.question.specs.Taken.{number_after, one_after, two_after, numbers_after, count_after, name_after, next_after, AnsweredBy, TakenBy};
 
-// A number, and the place after it.
+// A number, and the place after it. Inlined as `get_number` is.
 #[inline]
 pub fn number(line: &[u8], at: usize) -> Option<(i64, usize)>
     ensures { result ≡ number_after line.now at }

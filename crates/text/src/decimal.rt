@@ -118,6 +118,7 @@ fn get_plus(s: &[u8], at: usize) -> Option<(i64, usize)>
 }
 
 // Reads a number: digits, or `-` and digits. It answers the number and the place after it, if there is one that is an i64.
+// Inlined, since programs read many numbers and would call it for each.
 #[inline]
 pub fn get_number(s: &[u8], at: usize) -> Option<(i64, usize)>
     ensures { result ≡ number_at s.now at }
